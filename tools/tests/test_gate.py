@@ -4,12 +4,14 @@ import importlib.machinery
 import importlib.util
 import os
 import pathlib
+import shutil
 import subprocess
 import unittest
 
+import check_cited
 import check_layers
 import desks
-from desks import ROOT, folder, run
+from desks import ROOT, folder, run, written
 
 GATE = ROOT / "tools/gate"
 
@@ -91,6 +93,24 @@ class Gate(unittest.TestCase):
             parts = {path.name for path in pathlib.Path(place, "crates", "debver").iterdir()}
             self.assertEqual(parts & {"src", "must-fail", "wrong-bodies", "out"}, {"src"})
 
+    def test_layout(self):
+        """Files that `rt fmt` would change are told, with their crate."""
+        with folder() as place:
+            tools = pathlib.Path(place, "tools/gate")
+            tools.mkdir(parents=True)
+            for name in ("check_layout", "copy_crates"):
+                shutil.copy(GATE / name, tools)
+            written(place, "HANDLES", "Handles allowed: none.\n")
+            written(place, "crates.txt", "one:\ntwo: one\n")
+            for name in ("one", "two"):
+                source = pathlib.Path(place, "crates", name, "src")
+                source.mkdir(parents=True)
+                written(source, "lib.rt", "//! Nothing.\n")
+            self.assertIn("are laid out", run([tools / "check_layout"])[0])
+            written(source, "lib.rt", "//! Nothing.\nfn  nothing( ) {}\n")
+            output, _ = run([tools / "check_layout"], status=1)
+            self.assertEqual(output.splitlines()[1:], ["two/src/lib.rt"])
+
     def test_checks(self):
         """At least one check runs, and at most one a processor."""
         output, _ = run([GATE / "checks_at_once"])
@@ -171,6 +191,79 @@ class CheckOptions(unittest.TestCase):
             program.chmod(0o755)
             output, _ = run([GATE / "check_options", program], status=1)
             self.assertIn("store", output)
+
+
+class Cited(unittest.TestCase):
+    """`check_cited`, by which `check_documents` looks whether the program makes a call."""
+
+    LINES = "# Low\nlow: kit\n# High\nbts: low\ntest_low: low\n"
+    LOW = """/// Calls nothing: other(1).
+pub fn one(x: u8) -> u8
+    ensures { result ≡ two (x) }
+{
+    // three(x)
+    inner(x).map(handed)
+}
+
+fn inner(x: u8) -> Option<u8> {
+    Some(x)
+}
+
+fn handed(x: u8) -> u8 {
+    two::<u8>(x)
+}
+
+pub fn two(x: u8) -> u8 {
+    x
+}
+
+pub fn three(x: u8) -> u8 {
+    two(x)
+}
+
+pub fn a_law()
+    ensures { one ≡ two }
+{}
+"""
+
+    def told(self, cites, low=LOW):
+        """The complaints of documents that cite these calls."""
+        with folder() as where:
+            root = pathlib.Path(where)
+            for name, text in (
+                ("crates.txt", self.LINES),
+                ("crates/bts/src/main.rt", "fn main() {\n    low::one(1);\n}\n"),
+                ("crates/low/src/lib.rt", low),
+                ("crates/test_low/src/lib.rt", "fn main() {\n    three(1);\n}\n"),
+                ("README.md", f"\n## What is promised\n{cites}\nThe toolchain, LLVM\n"),
+                ("docs/PROVED.md", "**The headline.** **Only tested**\n## The headline\n"),
+            ):
+                (root / name).parent.mkdir(parents=True, exist_ok=True)
+                (root / name).write_text(text)
+            with (root / "docs/PROVED.md").open("a") as document:
+                document.write("A version is its own ancestor")
+            return check_cited.complaints(root)
+
+    def test_calls(self):
+        """A call that only tests make is told, and so is one that nobody makes."""
+        self.assertEqual(self.told("`low::one` `low::two` `low::inner`"), [])
+        wanted = "README.md:3: cites low::three, which the program does not call"
+        self.assertEqual(self.told("`low::three`"), [wanted])
+        self.assertEqual(len(self.told("`low::other` and `low::Type::gone`")), 2)
+
+    def test_exempt(self):
+        """Laws, types and the calls of the crate on crashes are exempt."""
+        self.assertEqual(self.told("`low::a_law` `low::Type` `table_crashes::crash`"), [])
+
+    def test_tables(self):
+        """A table that is not there is told."""
+        before = check_cited.TABLES
+        check_cited.TABLES = [("README.md", "## Promises", "The toolchain")]
+        try:
+            wanted = "README.md: has no table from '## Promises' to 'The toolchain'"
+            self.assertEqual(self.told("`low::one`"), [wanted])
+        finally:
+            check_cited.TABLES = before
 
 
 if __name__ == "__main__":

@@ -1,4 +1,5 @@
 pub mod RepeatLemmas
 pub mod ExchangeLemmas
 pub mod ServingLemmas
+mod CrashLemmas
 mod CountLemmas

@@ -1,6 +1,6 @@
 -- One exchange: what an input is answered, whatever the pieces in which its bytes come.
 -- This project's own rule.
-use Rattle.std.specs.Prelude.{ℕ, ◌≡◌, ◌≢◌, ◌⊎◌, List, [], Option, Some, None, Result, Ok, Err, IfSome, ⊤}
+use Rattle.std.specs.Prelude.{ℕ, ◌≡◌, ◌≢◌, ◌⊎◌, Bool, List, [], Option, Some, None, Result, Ok, Err, IfSome, IsTrue, take, ⊤}
 use Rattle.std.specs.Io.KnownBytes.{Appends}
 use Rattle.httparse.specs.Grammar.{RequestHead}
 use Rattle.base_faults.specs.declared.store_fault.StoreFault.{StoreFault}
@@ -15,27 +15,43 @@ use Rattle.http_answers.specs.Faults.{counted_with}
 use Rattle.http_answers.specs.Repeats.{IsAskedAnswer}
 use Rattle.http_answers.specs.Stored.{Stored}
 use Rattle.http_requests.specs.Asking.{asked_of, bad_request}
+use Rattle.http_requests.specs.Memory.{takes_memory}
 use Rattle.desk_http.specs.declared.serve.Served.{Served}
 use Rattle.desk_http.specs.declared.serve.Served.TheVariants.{Answered, Closed}
 use Rattle.desk_http.specs.declared.serve.ServeFault.{ServeFault}
 use Rattle.desk_http.specs.declared.serve.ServeFault.TheVariants.{Read, Write}
 
 -- What is answered to what was asked, where this fault was met or none, and what the store holds
--- after it: a request that is refused changes nothing, and only 'out of memory' can come
--- before its refusal.
-abbrev pub IsReplyTo : Result Asked Answer → Stored → Option StoreFault → Answer → Stored → Type 0
-IsReplyTo (Ok request) old fault answer new = IsAskedAnswer request old fault answer new
-IsReplyTo (Err refusal) old None answer new = (answer ≡ refusal) × (new ≡ old)
-IsReplyTo (Err refusal) old (Some fault) answer new =
-    (fault ≡ Memory) × (answer ≡ store_fault) × (new ≡ old)
+-- after it: a request that is refused changes nothing, and only 'out of memory' can come before its
+-- refusal, where reading the request takes memory.
+abbrev pub IsReply : Bool → Result Asked Answer → Stored → Option StoreFault → Answer → Stored → Type 0
+IsReply takes (Ok request) old fault answer new = IsAskedAnswer request old fault answer new
+IsReply takes (Err refusal) old None answer new = (answer ≡ refusal) × (new ≡ old)
+IsReply takes (Err refusal) old (Some fault) answer new =
+    IsTrue takes × (fault ≡ Memory) × (answer ≡ store_fault) × (new ≡ old)
 
--- the input begins with a head, and what it asks is answered
+-- The same of a head and the bytes after it, once the table of the routes is made.
+-- What takes no memory is refused as it has to be, and never answered 500: 404 for want of a route,
+-- 405, 411, 413, 501, and 400 for a wrong length.
+abbrev pub IsReplyTo : RequestHead → List ℕ → Stored → Option StoreFault → Answer → Stored → Type 0
+IsReplyTo head rest old fault answer new =
+    IsReply (takes_memory head) (asked_of head rest) old fault answer new
+
+-- there was no memory for the table of the routes
+pub record LacksRoutes (old : Stored) (fault : Option StoreFault) (answer : Answer) (new : Stored) :
+    Type 0 where
+  pub met : fault ≡ Some Memory
+  pub is : answer ≡ store_fault
+  pub same : new ≡ old
+
+-- the input begins with a head, and what it asks is answered, or there was no memory for the table
+-- of the routes
 pub record AnswersHead (input : List ℕ) (old : Stored) (fault : Option StoreFault) (answer : Answer)
     (new : Stored) : Type 0 where
   pub head : RequestHead
   pub rest : List ℕ
   pub begins : BeginsWithHead input head rest
-  pub gives : IsReplyTo (asked_of head rest) old fault answer new
+  pub gives : IsReplyTo head rest old fault answer new ⊎ LacksRoutes old fault answer new
 
 -- the input is not empty and begins with no head within the limits
 pub record RefusesHead (input : List ℕ) (old : Stored) (fault : Option StoreFault) (answer : Answer)
@@ -59,8 +75,8 @@ pub record IsRight (input : Option (List ℕ)) (old new : Stored) (before after 
   pub counts : after ≡ counted_with fault before
 
 -- What serving one connection leaves and has written: at `Answered` the bytes of the input's
--- answer, whose status it names; at `Closed` and `Read` nothing, and no change; at `Write` the
--- store holds what it holds after the answer that was to be written.
+-- answer, whose status it names; at `Closed` and `Read` nothing, and no change; at `Write` a
+-- beginning of that answer, and the store holds what it holds after it.
 -- Over a reader whose bytes no contract knows, as a socket, this is so of some input.
 abbrev pub IsServed : Option (List ℕ) → Stored → Stored → Faults → Faults → Option (List ℕ)
     → Option (List ℕ) → Result Served ServeFault → Type 0
@@ -72,6 +88,7 @@ IsServed input old new n0 n1 c0 c1 (Ok Closed) =
 IsServed input old new n0 n1 c0 c1 (Err Read) = (new ≡ old) × (c1 ≡ c0)
 IsServed input old new n0 n1 c0 c1 (Err Write) =
     (fault : Option StoreFault) × (answer : Answer) × IsRight input old new n0 n1 fault answer
+    × (k : ℕ) × Appends c0 c1 (take k (answer_bytes answer))
 
 -- the store's faults after a connection, whatever the store is: one more at most
 abbrev pub IsCounted : Result Served ServeFault → Faults → Faults → Type 0

@@ -1,32 +1,36 @@
 //! Connections, one after another.
 
-ghost use Rattle.store_contract.specs.Store.{Holds};
 ghost use Rattle.http_answers.specs.Stored.{stored};
-ghost use Rattle.desk_http.specs.Serving.{Leaves, Counts, IsServing};
+ghost use Rattle.desk_http.specs.Serving.{TakesTurn, IsServing};
 
-use crate::connection::serve_within;
+use crate::connection::{drain_connection, serve_within};
+use crate::listening::Listens;
 use crate::port::ServerFault;
-use crate::serve::{ServeFault, Served};
+use http_bytes::Limits;
 use std::alloc::Global;
-use std::net::TcpListener;
+use std::io::{Read, Write};
 use std::time::Clock;
 use store_contract::Records;
 
-// Accepts a connection and serves it; `None` where none could be accepted.
-fn serve_next<C: Clock, S: Records>(
-    clock: &C,
+// Accepts a connection, serves it and ends it, if one could be accepted.
+fn serve_next<C, S: Records, R, W, L: Listens<R, W>>(
+    clock: C,
     alloc: Global,
     store: &mut S,
-    listener: &TcpListener,
-) -> Option<Result<Served, ServeFault>>
-    ensures answer { Holds S.is_kept S.is_honest store.old store.new
-        (Leaves result (stored S.desk S.keeping store.old, S.faults store.old) (stored S.desk S.keeping store.new, S.faults store.new)) }
-    ensures count { Counts result (S.faults store.old) (S.faults store.new) }
+    listener: &mut L,
+)
+where
+    C: Clock + Copy + Drop,
+    R: Read + Limits + Drop,
+    W: Write + Limits + Drop,
+    ensures { TakesTurn S.is_kept S.is_honest S.leaves (stored S.desk S.keeping) S.faults L.clients store.old store.new listener.old listener.new }
 {
-    match listener.accept() {
-        Ok((stream, _)) => Some(serve_within(clock, alloc, store, &stream, &stream)),
-        Err(_) => None,
-    }
+    let Some(connection) = listener.next_connection() else {
+        return;
+    };
+    let (served, connection) = serve_within(clock, alloc, store, connection);
+    let connection = drain_connection(clock, &served, connection);
+    listener.end_connection(connection);
 }
 
 /// Serves so many connections of a listener, one after another.
@@ -35,24 +39,29 @@ fn serve_next<C: Clock, S: Records>(
 /// that goes away ends nothing but its own exchange.
 /// A client that says nothing keeps the others waiting for 1 second, one that sends its request
 /// slowly for less than 10, and one that takes its answer slowly for 5, and one more for each whole
-/// 1,000,000 bytes of the answer's body.
+/// 1,000,000 bytes of the answer that it took.
 /// After an answer the server writes no more, and reads what the client still sends, for 1 second a
 /// read and 4 in all, and at most 16,777,216 bytes, so that the answer is not lost.
 /// These are this project's own rules.
+/// Over a listener whose clients are known, each was sent its answer, and nothing else.
 /// Which bytes a socket gives and takes, and how long anything takes, is not proved.
 ///
 /// # Errors
 ///
 /// `Store` where the count of the store's faults rose, right after the exchange that raised it; no
 /// other.
-pub fn serve_connections<C: Clock, S: Records>(
+pub fn serve_connections<C: Clock, S: Records, R, W, L: Listens<R, W>>(
     clock: &C,
     alloc: Global,
     store: &mut S,
-    listener: &TcpListener,
+    listener: &mut L,
     count: u64,
 ) -> Result<(), ServerFault>
-    ensures { IsServing S.is_kept S.is_honest (stored S.desk S.keeping) S.faults count store.old store.new result }
+where
+    R: Read + Limits + Drop,
+    W: Write + Limits + Drop,
+    ensures { IsServing S.is_kept S.is_honest S.leaves (stored S.desk S.keeping) S.faults count store.old store.new
+        (L.clients listener.old) (L.clients listener.new) result }
 {
     let before = store.faults();
     for done in 0..count {

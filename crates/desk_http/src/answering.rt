@@ -4,6 +4,7 @@ ghost use Rattle.std.specs.Prelude.{◌≡◌};
 ghost use Rattle.store_contract.specs.Store.{Holds};
 ghost use Rattle.http_requests.specs.Requests.{IsGoodAsked};
 ghost use Rattle.http_requests.specs.Told.{IsTold};
+ghost use Rattle.http_answers.specs.Crashes.{LeavesAnswered};
 ghost use Rattle.http_answers.specs.Faults.{counted_with};
 ghost use Rattle.http_answers.specs.Repeats.{IsAskedAnswer};
 ghost use Rattle.http_answers.specs.Stored.{stored};
@@ -35,6 +36,9 @@ pub fn answer_request<S: Records>(alloc: Global, store: &mut S, request: &Reques
     requires { IsGoodAsked (asked request.now) }
     ensures answer { Holds S.is_kept S.is_honest store.old store.new (IsAskedAnswer (asked request.now)
         (stored S.desk S.keeping store.old) result.fault (shown result) (stored S.desk S.keeping store.new)) }
+    ensures crash { Holds S.is_kept S.is_honest store.old store.new (LeavesAnswered S.leaves store.old store.new
+        (asked request.now) (S.desk store.old, S.keeping store.old) result.fault
+        (S.desk store.new, S.keeping store.new)) }
     ensures count { S.faults store.new ≡ counted_with result.fault (S.faults store.old) }
     ensures told { IsTold result.fault (shown result) }
 {

@@ -4,7 +4,9 @@ ghost use Rattle.std.specs.Prelude.{◌≡◌, string_bytes};
 ghost use Rattle.base_words.specs.Texts.{IsText};
 ghost use Rattle.base_words.specs.Ids.{IsId};
 ghost use Rattle.store_contract.specs.Store.{Holds};
+ghost use Rattle.http_requests.specs.Requests.{Once};
 ghost use Rattle.http_requests.specs.Told.{IsTold};
+ghost use Rattle.http_answers.specs.Crashes.{LeavesAnswered};
 ghost use Rattle.http_answers.specs.Faults.{counted_with};
 ghost use Rattle.http_answers.specs.Repeats.{IsOnceAnswer};
 ghost use Rattle.http_requests.specs.Shown.{shown, message_asked};
@@ -25,6 +27,9 @@ pub(crate) fn answer_once<S: Records>(alloc: Global, store: &mut S, request: &On
     ensures answer { Holds S.is_kept S.is_honest store.old store.new
         (IsOnceAnswer (string_bytes request.now.id) (message_asked request.now.message)
         (stored S.desk S.keeping store.old) result.fault (shown result) (stored S.desk S.keeping store.new)) }
+    ensures crash { Holds S.is_kept S.is_honest store.old store.new (LeavesAnswered S.leaves store.old store.new
+        (Once (string_bytes request.now.id) (message_asked request.now.message)) (S.desk store.old, S.keeping store.old) result.fault
+        (S.desk store.new, S.keeping store.new)) }
     ensures count { S.faults store.new ≡ counted_with result.fault (S.faults store.old) }
     ensures told { IsTold result.fault (shown result) }
 {

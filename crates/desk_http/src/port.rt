@@ -1,6 +1,6 @@
 //! A port of this machine.
 
-ghost use Rattle.std.specs.Prelude.{◌≡◌, Err, OnOk, OnErr};
+ghost use Rattle.std.specs.Prelude.{◌≡◌, None, Err, OnOk, OnErr};
 ghost use Rattle.std.specs.Io.KnownBytes.{Appends};
 ghost use Rattle.http_answers.specs.Stored.{stored};
 ghost use Rattle.desk_http.specs.Port.{Serves, place_line};
@@ -63,14 +63,14 @@ pub fn serve_port<N, S: Records, W: Write>(
 ) -> Result<(), ServerFault>
 where
     N: Net<Listener = TcpListener, Stream = TcpStream> + Clock,
-    ensures serves { Serves result (IsServing S.is_kept S.is_honest (stored S.desk S.keeping) S.faults count store.old store.new result) }
+    ensures serves { Serves result (IsServing S.is_kept S.is_honest S.leaves (stored S.desk S.keeping) S.faults count store.old store.new None None result) }
     ensures told { Serves result (Appends (W.contents writer.old) (W.contents writer.new) (place_line port)) }
     ensures bind { result ≡ Err ServerFault.Bind → (store.new ≡ store.old) × (writer.new ≡ writer.old) }
     ensures write { result ≡ Err ServerFault.Write → store.new ≡ store.old }
 {
-    let Ok(listener) = TcpListener::bind(rt, (Ipv4Addr::LOCALHOST, port)) else {
+    let Ok(mut listener) = TcpListener::bind(rt, (Ipv4Addr::LOCALHOST, port)) else {
         return Err(ServerFault::Bind);
     };
     write_place(writer, port)?;
-    serve_connections(rt, alloc, store, &listener, count)
+    serve_connections(rt, alloc, store, &mut listener, count)
 }

@@ -1,7 +1,10 @@
 //! One connection.
 
-ghost use Rattle.std.specs.Prelude.{◌≡◌, ◌≢◌, [], None, Ok, Err, IfOk, IfErr, IfSome};
+ghost use Rattle.std.specs.Prelude.{◌≡◌, ◌≢◌, [], drop, None, Ok, Err, IfOk, IfErr, IfSome};
 ghost use Rattle.std.specs.Io.KnownBytes.{Appends};
+ghost use Rattle.httparse.specs.Grammar.{RequestHead};
+ghost use Rattle.httparse.specs.Spans.{IsRequestAt, IsRequestWithin};
+ghost use Rattle.http_bytes.specs.Body.{TakesBody};
 ghost use Rattle.http_bytes.specs.Head.{HasNoHead};
 ghost use Rattle.store_contract.specs.Store.{Holds};
 ghost use Rattle.http_requests.specs.Answer.{answer_bytes};
@@ -9,15 +12,17 @@ ghost use Rattle.http_requests.specs.Shown.{shown};
 ghost use Rattle.http_answers.specs.Stored.{stored};
 ghost use Rattle.http_requests.specs.Asking.{bad_request};
 ghost use Rattle.desk_http.specs.Exchange.{IsServed, IsCounted, TellsFault};
-ghost use Rattle.desk_http.specs.Steps.{IsExchanged, IsExchangeCounted, IsGiven};
-ghost use Rattle.http_requests.specs.Taken.{TakesRequest};
+ghost use Rattle.desk_http.specs.Crashes.{LeavesHead, LeavesExchanged, LeavesServed, fault_told};
+ghost use Rattle.desk_http.specs.Steps.{IsHeadAnswered, IsHeadCounted, IsExchanged, IsExchangeCounted, IsGiven};
+ghost use Rattle.http_requests.specs.Taken.{TakesRequest, size_of};
 
 use crate::answering::answer_request;
 use base_faults::StoreFault;
 use http::StatusCode;
 use http_bytes::{Head, MAX_HEAD, MAX_HEADERS, read_head};
 use http_requests::{AskFault, Reply, RequestRefusal, ask, refuse, store_fault, write_reply};
-use httparse::spans::{EMPTY_HEADER_SPAN, HeaderSpan};
+use http_routes::RouteTable;
+use httparse::spans::{EMPTY_HEADER_SPAN, HeaderSpan, RequestSpans};
 use std::alloc::Global;
 use std::io::{Read, Write};
 use store_contract::Records;
@@ -44,14 +49,43 @@ pub enum ServeFault {
     Write,
 }
 
-/// Reads one request, carries it out, and makes its answer, which is not written yet; there is none
-/// where no byte came.
-/// All of `serve_one` holds of it but the writing.
-///
-/// # Errors
-///
-/// `Read` where a read failed.
-pub fn exchange<S: Records, R: Read>(
+// Answers the request whose head the buffer has, with what else has come, out of a table of the
+// routes that is made: so what its head refuses, for want of a route, for its method or for its
+// length, is so refused whatever memory there is.
+// The error is `Read`, where a read failed.
+fn answer_head<S: Records, R: Read>(
+    alloc: Global,
+    routes: &RouteTable,
+    store: &mut S,
+    reader: &mut R,
+    buf: &[u8],
+    headers: &[HeaderSpan],
+    spans: RequestSpans,
+) -> Result<Reply, ServeFault>
+    requires { IsRequestWithin buf.now headers.now spans }
+    ensures answer { (head : RequestHead) → IsRequestAt buf.now headers.now spans head
+        → Holds S.is_kept S.is_honest store.old store.new (IsHeadAnswered head (drop spans.len buf.now) (R.remaining reader.old)
+        (stored S.desk S.keeping store.old) (stored S.desk S.keeping store.new) result) }
+    ensures count { IsHeadCounted result (S.faults store.old) (S.faults store.new) }
+    ensures crash { (head : RequestHead) → IsRequestAt buf.now headers.now spans head
+        → Holds S.is_kept S.is_honest store.old store.new (LeavesHead S.leaves store.old store.new head (drop spans.len buf.now)
+        (R.remaining reader.old) (fault_told result) (S.desk store.old, S.keeping store.old) (S.desk store.new, S.keeping store.new)) }
+    ensures read { IfErr result (λ fault. (fault ≡ ServeFault.Read) × (store.new ≡ store.old)) }
+    ensures taken { (head : RequestHead) → IsRequestAt buf.now headers.now spans head
+        → TakesBody (size_of head) (drop spans.len buf.now) (R.remaining reader.old) (R.remaining reader.new) }
+{
+    match ask(alloc, routes, reader, buf, headers, spans) {
+        Ok(request) => Ok(answer_request(alloc, store, &request)),
+        Err(AskFault::Refused(refusal)) => Ok(refuse(refusal)),
+        Err(AskFault::Memory) => Ok(store_fault(StoreFault::Memory)),
+        Err(AskFault::Read) => Err(ServeFault::Read),
+    }
+}
+
+// Reads one request, carries it out, and makes its answer, which is not written yet; there is none
+// where no byte came.
+// The error is `Read`, where a read failed.
+fn exchange<S: Records, R: Read>(
     alloc: Global,
     store: &mut S,
     reader: &mut R,
@@ -59,6 +93,8 @@ pub fn exchange<S: Records, R: Read>(
     ensures answer { Holds S.is_kept S.is_honest store.old store.new (IsExchanged (R.remaining reader.old)
         (stored S.desk S.keeping store.old) (stored S.desk S.keeping store.new) (S.faults store.old) (S.faults store.new) result) }
     ensures count { IsExchangeCounted result (S.faults store.old) (S.faults store.new) }
+    ensures crash { Holds S.is_kept S.is_honest store.old store.new
+        (LeavesExchanged S.leaves store.old store.new (R.remaining reader.old) result (S.desk store.old, S.keeping store.old) (S.desk store.new, S.keeping store.new)) }
     ensures closed { IfOk result (λ reply. reply ≡ None → (store.new ≡ store.old)
         × IfSome (R.remaining reader.old) (λ input. input ≡ [])) }
     ensures read { IfErr result (λ fault. (fault ≡ ServeFault.Read) × (store.new ≡ store.old)) }
@@ -76,12 +112,19 @@ pub fn exchange<S: Records, R: Read>(
         Head::Wrong => return Ok(Some(refuse(RequestRefusal::BadRequest))),
         Head::Complete { spans, filled } => (spans, filled),
     };
-    match ask(alloc, reader, &buf[..filled], &headers, spans) {
-        Ok(request) => Ok(Some(answer_request(alloc, store, &request))),
-        Err(AskFault::Refused(refusal)) => Ok(Some(refuse(refusal))),
-        Err(AskFault::Memory) => Ok(Some(store_fault(StoreFault::Memory))),
-        Err(AskFault::Read) => Err(ServeFault::Read),
-    }
+    let Ok(routes) = RouteTable::new(alloc) else {
+        return Ok(Some(store_fault(StoreFault::Memory)));
+    };
+    let reply = answer_head(
+        alloc,
+        &routes,
+        store,
+        reader,
+        &buf[..filled],
+        &headers,
+        spans,
+    )?;
+    Ok(Some(reply))
 }
 
 /// Serves one connection: reads one request, carries it out, and writes its answer.
@@ -101,6 +144,11 @@ pub fn exchange<S: Records, R: Read>(
 /// A head that is wrong is answered 400, whatever the store, and takes no memory.
 /// Where the store fails, or there is no memory, the answer is 500, and nothing has changed, except
 /// that of a control message some lines from the first, or all, may have been taken.
+/// A 404 for want of a route, 405, 411, 413, 501 and a 400 for a wrong length take no memory but
+/// for the table of the routes, which is made once the head is read: they are 500 only where there
+/// is none for that table.
+/// Where a crash as the call began left what the store held alone, a crash as it returns leaves
+/// what is held then, or, after a 500 or a failed write, what would be held after one line more.
 /// These are this project's own rules.
 /// Unlike RFC 9110 and RFC 9112, no `Host` is asked for, an absolute target has no route, `HEAD` is
 /// another method, whose 405 has a body, `Expect` is not looked at, and no `Date` is sent.
@@ -119,6 +167,8 @@ pub fn serve_one<S: Records, R: Read, W: Write>(
         (W.contents writer.old) (W.contents writer.new) result) }
     ensures count { IsCounted result (S.faults store.old) (S.faults store.new) }
     ensures told { TellsFault result (S.faults store.old) (S.faults store.new) (W.contents writer.old) (W.contents writer.new) }
+    ensures crash { Holds S.is_kept S.is_honest store.old store.new
+        (LeavesServed S.leaves store.old store.new (R.remaining reader.old) result (S.desk store.old, S.keeping store.old) (S.desk store.new, S.keeping store.new)) }
 
     // No byte came: nothing is written, and the store is not called.
     ensures closed { result ≡ Ok Served.Closed → (store.new ≡ store.old)
@@ -137,6 +187,8 @@ pub fn serve_one<S: Records, R: Read, W: Write>(
     let Some(reply) = exchange(alloc, store, reader)? else {
         return Ok(Served::Closed);
     };
-    write_reply(writer, &reply).map_err(|_| ServeFault::Write)?;
-    Ok(Served::Answered(reply.status))
+    match write_reply(writer, &reply) {
+        Ok(()) => Ok(Served::Answered(reply.status)),
+        Err(_) => Err(ServeFault::Write),
+    }
 }

@@ -1,5 +1,6 @@
 pub mod WrittenLemmas
 pub mod PartLemmas
+pub mod WritingLemmas
 pub mod BranchLemmas
 pub mod QuestionLemmas
 pub mod RunLemmas

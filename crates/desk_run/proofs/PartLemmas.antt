@@ -1,7 +1,7 @@
 -- Parts of a script, carried out one at a time.
 use Rattle.std.proofs.Common.{◌≡◌, inl, inr, ℕ, Bool, true, ◌<◌, length, List, take, sym, ◌∙◌, ap, subst, refl, Option, Some}
 use Rattle.std.proofs.Common.{None, Result, Ok, Err}
-use Rattle.std.specs.Prelude.{◌||◌, OnOk, OnErr}
+use Rattle.std.specs.Prelude.{◌||◌, ◌≢◌, [], OnOk, OnErr}
 use Rattle.std.proofs.lemmas.Option.{none-some, same_Some}
 use Rattle.std.specs.Io.KnownBytes.{Appends}
 use Rattle.bug_record.specs.Desk.{Desk}
@@ -17,7 +17,9 @@ use Rattle.message_directives.specs.Reports.{report_of, IsReported, faults_after
 use Rattle.desk_run.specs.Script.{Part, Message, DirectiveLine, Directive, Report, Standing, standing, part_text, part_after}
 use Rattle.desk_run.specs.Script.{message_text, after_message, refuses, directive_of, directive_text, after_directive}
 use Rattle.desk_run.specs.Script.{report_text, after_report}
-use Rattle.desk_run.specs.Running.{AsksStore, FaultsIn, StopsIn}
+use Rattle.message_receiving.specs.Ends.{IsLineOf}
+use Rattle.desk_run.specs.Running.{AsksStore, FailsAt, FaultsIn, IsUntold}
+use Rattle.desk_run.specs.Stopping.{StopsIn}
 use Rattle.desk_run.specs.Carrying.{Carries}
 use Rattle.desk_text.specs.Answers.{report_answer}
 use Rattle.desk_run.specs.RefusedAndFailed.{fault_of_end, store_fault}
@@ -51,26 +53,44 @@ carried_whole lines s outcomes end d n0 n1 n h =
 
 -- a message that was received is carried out, whole or up to a fault
 pub received_carried : (lines : List (List ℕ)) (s : Standing) (outcomes : List Entry) (end : End) (d : Desk) (n0 n1 : Faults)
-    → n1 ≡ faults_after_end end n0 → IsReceived s.sender lines s.desk outcomes end d
+    → n1 ≡ faults_after_end end n0 → IsReceived s.sender lines s.desk outcomes end d → IsLineOf end lines
     → Carried (Message lines) s d n0 n1 (received_text outcomes end lines)
-received_carried lines s outcomes ends.All d n0 n1 n h = carried_whole lines s outcomes ends.All d n0 n1 n h
-received_carried lines s outcomes ends.Stopped d n0 n1 n h = carried_whole lines s outcomes ends.Stopped d n0 n1 n h
-received_carried lines s outcomes ends.TooManyUnreadable d n0 n1 n h =
+received_carried lines s outcomes ends.All d n0 n1 n h l = carried_whole lines s outcomes ends.All d n0 n1 n h
+received_carried lines s outcomes ends.Stopped d n0 n1 n h l = carried_whole lines s outcomes ends.Stopped d n0 n1 n h
+received_carried lines s outcomes ends.TooManyUnreadable d n0 n1 n h l =
     carried_whole lines s outcomes ends.TooManyUnreadable d n0 n1 n h
-received_carried lines s outcomes (ends.Store fault k) d n0 n1 n h = inr (fault, (outcomes, k, h, refl), n)
+received_carried lines s outcomes (ends.Store fault k) d n0 n1 n h l = inr (fault, (outcomes, k, (h, l), refl), n)
+
+-- there was no memory for its transcript
+abbrev Untold : List (List ℕ) → Standing → Desk → Faults → Faults → Type 0
+Untold lines s d n0 n1 = IsUntold (Message lines) (course s d n0 n1 None None)
+
+untold_whole : (lines : List (List ℕ)) (s : Standing) (outcomes : List Entry) (end : End) (d : Desk) (n0 n1 : Faults) → n1 ≡ n0
+    → Comes s.sender lines s.desk outcomes end d → Untold lines s d n0 n1
+untold_whole lines s outcomes end d n0 n1 n h =
+    inl (sym (ap (λ (x : Standing). x.desk) (message_is lines s (machine d outcomes) h.after).1), n)
+
+pub received_untold : (lines : List (List ℕ)) (s : Standing) (outcomes : List Entry) (end : End) (d : Desk) (n0 n1 : Faults)
+    → n1 ≡ faults_after_end end n0 → IsReceived s.sender lines s.desk outcomes end d → IsLineOf end lines → outcomes ≢ []
+    → Untold lines s d n0 n1
+received_untold lines s outcomes ends.All d n0 n1 n h l some = untold_whole lines s outcomes ends.All d n0 n1 n h
+received_untold lines s outcomes ends.Stopped d n0 n1 n h l some = untold_whole lines s outcomes ends.Stopped d n0 n1 n h
+received_untold lines s outcomes ends.TooManyUnreadable d n0 n1 n h l some =
+    untold_whole lines s outcomes ends.TooManyUnreadable d n0 n1 n h
+received_untold lines s outcomes (ends.Store fault k) d n0 n1 n h l some = inr (fault, outcomes, k, (h, l), some, n)
 
 -- at a fault of the store
 pub received_fault : (lines : List (List ℕ)) (s : Standing) (outcomes : List Entry) (end : End) (d : Desk) (fault : StoreFault)
-    → fault_of_end end ≡ Some fault → IsReceived s.sender lines s.desk outcomes end d
+    → fault_of_end end ≡ Some fault → IsReceived s.sender lines s.desk outcomes end d → IsLineOf end lines
     → FaultsIn (Message lines) s fault d (received_text outcomes end lines)
-received_fault lines s outcomes ends.All d fault e h = absurd (none-some fault e)
-received_fault lines s outcomes ends.Stopped d fault e h = absurd (none-some fault e)
-received_fault lines s outcomes ends.TooManyUnreadable d fault e h = absurd (none-some fault e)
-received_fault lines s outcomes (ends.Store other k) d fault e h =
+received_fault lines s outcomes ends.All d fault e h l = absurd (none-some fault e)
+received_fault lines s outcomes ends.Stopped d fault e h l = absurd (none-some fault e)
+received_fault lines s outcomes ends.TooManyUnreadable d fault e h l = absurd (none-some fault e)
+received_fault lines s outcomes (ends.Store other k) d fault e h l =
     let same : other ≡ fault = same_Some other fault e in (
       outcomes,
       k,
-      subst (λ (f : StoreFault). IsReceived s.sender lines s.desk outcomes (ends.Store f k) d) same h,
+      subst (λ (f : StoreFault). FailsAt lines s f d outcomes k) same (h, l),
       ap (λ (f : StoreFault). received_text outcomes (ends.Store f k) lines) same,
     )
 
@@ -112,7 +132,7 @@ order_unwritten line s d faults c0 c1 text n directive e f t few h =
     (text, n, few, inl (f ∙ sym (ap (λ (x : Standing). x.desk) o.1), t ∙ sym o.0, refl), h)
 
 -- a directive that is refused before the store is asked
-abbrev fault_of : ScriptFault → Result (Unit {0}) ScriptFault → ScriptFault
+abbrev pub fault_of : ScriptFault → Result (Unit {0}) ScriptFault → ScriptFault
 fault_of other (Ok done) = other
 fault_of other (Err fault) = fault
 
@@ -135,11 +155,6 @@ order_refused line s sender refused faults c0 c1 text directive (Err fault) e af
 pub not_begun : (part : Part) (s : Standing) (d : Desk) (n0 n1 : Faults) (c : Option (List ℕ)) → d ≡ s.desk → n1 ≡ n0
     → StopsIn part (course s d n0 n1 c c) stops.Memory
 not_begun part s d n0 n1 c e n = inl (e, n, appends_none c)
-
--- out of memory for the text of what was done
-pub untold : (part : Part) (s : Standing) (d : Desk) (n0 n1 : Faults) (c : Option (List ℕ)) (text : List ℕ)
-    → Carried part s d n0 n1 text → StopsIn part (course s d n0 n1 c c) stops.Memory
-untold part s d n0 n1 c text h = inr (text, h, appends_none c)
 
 -- what a report comes to
 report_is : (line p : List ℕ) (v : Option (List ℕ)) (sev t : List ℕ) (s : Standing) (r : Result Desk ReportFault)

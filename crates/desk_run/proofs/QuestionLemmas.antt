@@ -13,7 +13,8 @@ use Rattle.message_directives.specs.declared.told.QuestionFault.{QuestionFault}
 use Rattle.message_directives.specs.declared.told.QuestionFault.TheVariants as questions
 use Rattle.desk_run.specs.Script.{DirectiveLine, Directive, Standing, standing, directive_of, directive_text, after_directive}
 use Rattle.desk_run.specs.Script.{after_question}
-use Rattle.desk_run.specs.Running.{AsksStore, FaultsIn, StopsIn}
+use Rattle.desk_run.specs.Running.{AsksStore, FaultsIn}
+use Rattle.desk_run.specs.Stopping.{StopsIn}
 use Rattle.desk_run.specs.Carrying.{Carries}
 use Rattle.desk_run.proofs.WrittenLemmas.{course}
 use Rattle.desk_run.specs.RefusedAndFailed.{Tells, TellsFault}
@@ -35,8 +36,7 @@ fault_carried line s b n0 n1 c0 c1 directive asked fault (Err (stops.Store told)
     (fault_text fault, asked_fault line s b.desk directive asked fault e asks h, n, t.1)
 fault_carried line s b n0 n1 c0 c1 directive asked fault (Err stops.Write) e asks n h t =
     (fault_text fault, t.0, t.1, inr (fault, asked_fault line s b.desk directive asked fault e asks h, n), t.2)
-fault_carried line s b n0 n1 c0 c1 directive asked fault (Err stops.Memory) e asks n h t =
-    inr (fault_text fault, inr (fault, asked_fault line s b.desk directive asked fault e asks h, n), t)
+fault_carried line s b n0 n1 c0 c1 directive asked fault (Err stops.Memory) e asks n h t = absurd t
 fault_carried line s b n0 n1 c0 c1 directive asked fault (Err stops.Read) e asks n h t = absurd t
 fault_carried line s b n0 n1 c0 c1 directive asked fault (Err (stops.NotUtf8 k)) e asks n h t = absurd t
 fault_carried line s b n0 n1 c0 c1 directive asked fault (Err (stops.LineTooLong k)) e asks n h t = absurd t

@@ -8,7 +8,8 @@ use Rattle.store_contract.specs.Store.{Faults}
 use Rattle.desk_run.specs.Script.{Part, Message, DirectiveLine, Standing, part_text, part_after, text_of, after_parts}
 use Rattle.desk_run.specs.Script.{parts_of_lines, with_line, is_directive, end_of_script}
 use Rattle.desk_run.specs.Gathering.{parts_from}
-use Rattle.desk_run.specs.Running.{Course, StopsIn, Stops, IfBegun, part_course}
+use Rattle.desk_run.specs.Running.{Course}
+use Rattle.desk_run.specs.Stopping.{StopsIn, Stops, IfBegun, part_course}
 use Rattle.desk_run.specs.Carrying.{Runs, EndsParts}
 use Rattle.control_lines.specs.declared.fault.ScriptFault.{ScriptFault}
 use Rattle.control_lines.specs.declared.fault.ScriptFault.TheVariants as stops
@@ -175,7 +176,7 @@ pub parts_gathered : (gathered : List (List ℕ)) (line : List ℕ) (lines : Lis
 parts_gathered gathered line lines e = rw e refl
 
 -- no directive is the last part
-some_first : {A : Type 0} (x : A) (xs : List A) → x ∷ xs ≢ []
+pub some_first : {A : Type 0} (x : A) (xs : List A) → x ∷ xs ≢ []
 some_first x xs e = cc
 
 some_more : {A : Type 0} (xs : List A) (x : A) (ys : List A) → xs ++ x ∷ ys ≢ []

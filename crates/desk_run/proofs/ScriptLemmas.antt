@@ -1,23 +1,26 @@
 -- A script, from the lines that are left.
 use Rattle.std.proofs.Common.{◌≡◌, inl, inr, ℕ, ◌+◌, List, [], ◌∷◌, ◌++◌, length, map, sym, ◌∙◌, ap, subst, refl, arith, Option, Some}
-use Rattle.std.proofs.Common.{Result, Ok, Err, append_assoc, append-nil, length-append}
+use Rattle.std.proofs.Common.{Result, Ok, Err, append_assoc, append-nil, length-append, ◌⊎◌, Bool, true, false, take}
 use Rattle.std.specs.Prelude.{◌≢◌, ⊤}
-use Rattle.std.specs.Result.{IfErr, OnOk}
+use Rattle.std.specs.Result.{OnOk}
+use Rattle.std.specs.Io.KnownBytes.{Appends}
+use Rattle.std.proofs.KnownBytes.{Appends-trans}
 use Rattle.bug_record.specs.Desk.{Desk}
 use Rattle.base_faults.specs.declared.store_fault.StoreFault.TheVariants as faults
 use Rattle.store_contract.specs.Store.{Faults}
 use Rattle.control_lines.specs.Lines.{without_return, raw_lines, lines_of}
 use Rattle.control_lines.specs.Reading.{IsGoodLine, IsLineFault, IsReadingFault, IsBegun, Known, Left}
-use Rattle.desk_run.specs.Script.{Part, Message, Standing, parts_of_lines, script_of, after_parts}
+use Rattle.desk_run.specs.Script.{Part, Message, DirectiveLine, Standing, is_directive, parts_of_lines, script_of, text_of, after_parts}
 use Rattle.desk_run.specs.Gathering.{parts_from}
-use Rattle.desk_run.specs.Running.{Stops, StopsIn, IfBegun, Ends, AreGood, IsFirstBad, IsPlace, IsReadInPart, IsFinished}
-use Rattle.desk_run.specs.Running.{StopsInGoodLines, IsCounted}
-use Rattle.desk_run.specs.Carrying.{Runs, EndsParts, IsOfPart}
+use Rattle.desk_run.specs.Running.{Ends, AreGood, Place, IsMessage, IsCutShort, StoppedReading, StoppedInPart}
+use Rattle.desk_run.specs.Running.{IsReadInPart, IsCounted}
+use Rattle.desk_run.specs.Stopping.{IsUnbegun, StopsIn, IfBegun, Stops}
+use Rattle.desk_run.specs.Carrying.{Runs, EndsParts}
 use Rattle.control_lines.specs.declared.fault.ScriptFault.{ScriptFault}
 use Rattle.control_lines.specs.declared.fault.ScriptFault.TheVariants as stops
 use Rattle.desk_run.specs.declared.script.ScriptEnd.{ScriptEnd}
-use Rattle.desk_run.proofs.WrittenLemmas.{appends_none, course}
-use Rattle.desk_run.proofs.RunLemmas.{runs_then_stops, runs_then_ends, one_stops, parts_begin, runs_none, from_start, stops_so}
+use Rattle.desk_run.proofs.WrittenLemmas.{course, untold_so}
+use Rattle.desk_run.proofs.RunLemmas.{runs_then_stops, runs_then_ends, some_first, runs_none, from_start, stops_so}
 
 map_append : {A B : Type 0} (f : A → B) (xs ys : List A) → map f (xs ++ ys) ≡ map f xs ++ map f ys
 map_append f [] ys = refl
@@ -86,20 +89,18 @@ cut_here : (texts : List (List ℕ)) (before : List Part) (g : List (List ℕ)) 
     → parts_from [] texts ≡ before ++ Message g ∷ []
 cut_here texts before g c = ap (parts_from []) (sym (append-nil texts)) ∙ c []
 
--- a stop in the parts of the lines that are read
-good_stops : (texts : List (List ℕ)) (before tail : List Part) (input left : List ℕ) (rest : Option (List ℕ))
-    (a b : Standing) (d : Desk) (n0 n1 : Faults) (c0 c1 c2 : Option (List ℕ)) (fault : ScriptFault) → ReadTo texts input left
-    → parts_from [] texts ≡ before ++ tail → Runs before a b c0 c1
-    → Stops tail (course b d n0 n1 c1 c2) fault (λ after. IsFinished after left rest)
-    → StopsInGoodLines input rest (course a d n0 n1 c0 c2) fault
-good_stops texts before tail input left rest a b d n0 n1 c0 c1 c2 fault r e ran s = record {
-  good = r.raws;
+-- where a script stands that has read so much
+abbrev place_at : (texts : List (List ℕ)) (input left : List ℕ) (before : List Part) (part : Part) (after : List Part)
+    → ReadTo texts input left → parts_from [] texts ≡ before ++ part ∷ after → Place input
+place_at texts input left before part after r e = record {
+  lines = r.raws;
   left = left;
-  lines = r.lines;
-  are_good = r.good;
-  stops = subst (λ (ps : List Part). Stops ps (course a d n0 n1 c0 c2) fault (λ after. IsFinished after left rest))
-      (sym (read_cut texts tail before input left r e))
-      (runs_then_stops before tail a b d n0 n1 c0 c1 c2 fault (λ after. IsFinished after left rest) ran s);
+  read = r.lines;
+  good = r.good;
+  before = before;
+  part = part;
+  after = after;
+  cut = read_cut texts (part ∷ after) before input left r e;
 }
 
 -- nothing is left
@@ -108,141 +109,162 @@ all_good : (texts : List (List ℕ)) (input rest : List ℕ) → ReadTo texts in
 all_good texts input rest r e =
     subst AreGood (sym (r.lines ∙ (ap (λ (w : List (List ℕ)). r.raws ++ w) e ∙ append-nil r.raws))) r.good
 
-place_of_part : (fault : ScriptFault) (raws : List (List ℕ)) (before : List Part) → IsOfPart fault → IsPlace fault raws before
-place_of_part (stops.Store fault) raws before o = tt
-place_of_part stops.Write raws before o = tt
-place_of_part stops.Memory raws before o = tt
-place_of_part stops.Read raws before o = absurd o
-place_of_part (stops.NotUtf8 line) raws before o = absurd o
-place_of_part (stops.LineTooLong line) raws before o = absurd o
+-- the last of some parts
+last_or : Part → List Part → Part
+last_or p [] = p
+last_or p (q ∷ ps) = last_or q ps
 
--- a stop in the parts that are left
-pub stops_in : (texts : List (List ℕ)) (before : List Part) (g : List (List ℕ)) (input left : List ℕ)
-    (rest : Option (List ℕ)) (a b : Standing) (d : Desk) (n0 n1 : Faults) (c0 c1 c2 : Option (List ℕ)) (fault : ScriptFault)
-    (P : List Part → Type 0) → ReadTo texts input left → IsCut texts before g → Runs before a b c0 c1 → IsOfPart fault
-    → Stops (parts_from g (map without_return (raw_lines left))) (course b d n0 n1 c1 c2) fault P
-    → StopsInGoodLines input rest (course a d n0 n1 c0 c2) fault → Ends input rest (course a d n0 n1 c0 c2) (Err fault)
-stops_in texts before g input left rest a b d n0 n1 c0 c1 c2 fault P r c ran o s good =
-    let cut = script_cut texts before g input left r c in
-    let tail = parts_from g (map without_return (raw_lines left)) in
-    let stop = subst (λ (ps : List Part). Stops ps (course a d n0 n1 c0 c2) fault (λ after. ⊤)) (sym cut)
-    (runs_then_stops before tail a b d n0 n1 c0 c1 c2 fault (λ after. ⊤) ran
-    (stops_so tail (course b d n0 n1 c1 c2) fault P (λ after. ⊤) (λ after h. tt) s)) in
-    (stop, place_of_part fault (raw_lines input) stop.before o, good)
+last_is : (x : Part) (before : List Part) (part : Part) → last_or x (before ++ part ∷ []) ≡ part
+unfolding last_or
+last_is x [] part = refl
+last_is x (p ∷ before) part = last_is p before part
 
--- the part is finished where nothing is left
-ended : (after : List Part) (left unused untaken : List ℕ) (rest : Option (List ℕ)) → left ≡ unused ++ untaken
-    → rest ≡ Some untaken → left ≡ [] → IsFinished after left rest
-ended after left unused untaken rest e f none =
-    record { unused = unused; untaken = untaken; is_left = e; is_untaken = f; finished = inr none }
+last_message_at : (x : Part) (gathered : List (List ℕ)) (line : List ℕ) (lines : List (List ℕ)) (b : Bool) → is_directive line ≡ b
+    → IsMessage (last_or (DirectiveLine line) (parts_from [] lines))
+    → IsMessage (last_or x (parts_from (gathered ++ line ∷ []) lines)) → IsMessage (last_or x (parts_from gathered (line ∷ lines)))
+unfolding last_or
+last_message_at x gathered line lines true e after more = rw e after
+last_message_at x gathered line lines false e after more = rw e more
 
--- the part is finished where a part follows it
-followed : (after : List Part) (unused untaken : List ℕ) (rest : Option (List ℕ)) → rest ≡ Some untaken → after ≢ []
-    → IsFinished after (unused ++ untaken) rest
-followed after unused untaken rest f some =
-    record { unused = unused; untaken = untaken; is_left = refl; is_untaken = f; finished = inl some }
+last_message : (x : Part) (gathered lines : List (List ℕ)) → IsMessage (last_or x (parts_from gathered lines))
+unfolding last_or
+last_message x gathered [] = tt
+last_message x gathered (line ∷ lines) =
+    last_message_at x gathered line lines (is_directive line) refl (last_message (DirectiveLine line) [] lines)
+    (last_message x (gathered ++ line ∷ []) lines)
+
+-- the part that the lines end with is a message
+ends_with_message : (texts : List (List ℕ)) (before : List Part) (part : Part) → parts_from [] texts ≡ before ++ part ∷ [] → IsMessage part
+ends_with_message texts before part e =
+    subst IsMessage (ap (last_or part) e ∙ last_is part before part) (last_message part [] texts)
+
+-- a stop of the reading
+pub stops_reading : (texts : List (List ℕ)) (before : List Part) (g : List (List ℕ)) (input left : List ℕ)
+    (rest : Option (List ℕ)) (number : ℕ) (a b : Standing) (d : Desk) (n0 n1 : Faults) (c0 c1 : Option (List ℕ))
+    (fault : ScriptFault) → ReadTo texts input left → IsCut texts before g → Runs before a b c0 c1 → d ≡ b.desk → n1 ≡ n0
+    → length texts + 1 ≡ number → IsLineFault number fault left → Ends input rest (course a d n0 n1 c0 c1) (Err fault)
+stops_reading texts before g input left rest number a b d n0 n1 c0 c1 fault r c ran same uncounted n f =
+    inl (record {
+      place = place_at texts input left before (Message g) [] r (cut_here texts before g c);
+      gathered = (tt, refl);
+      carried = record { desk = same ∙ ap (λ (s : Standing). s.desk) ran.0; faults = uncounted; texts = ran.1 };
+      next = subst (λ (k : ℕ). IsLineFault k fault left)
+          (sym n ∙ ap (λ (k : ℕ). k + 1) (ap length (sym r.texts_are) ∙ length_map without_return r.raws)) f;
+    })
+
+-- out of memory before the part that the lines end with was begun
+stops_unbegun : (texts : List (List ℕ)) (input left : List ℕ) (a : Standing) (d : Desk) (n0 n1 : Faults)
+    (c0 between c2 : Option (List ℕ)) (before : List Part) (part : Part) → ReadTo texts input left
+    → parts_from [] texts ≡ before ++ part ∷ [] → Appends c0 between (text_of before a)
+    → IsUnbegun (course (after_parts before a) d n0 n1 between c2) → StoppedReading input (course a d n0 n1 c0 c2) stops.Memory
+stops_unbegun texts input left a d n0 n1 c0 between c2 before part r e ran none = record {
+  place = place_at texts input left before part [] r e;
+  gathered = (ends_with_message texts before part e, refl);
+  carried = record {
+    desk = none.0;
+    faults = none.1;
+    texts = subst (Appends c0 c2) (append-nil (text_of before a))
+        (Appends-trans c0 between c2 (text_of before a) [] ran none.2);
+  };
+  next = tt;
+}
+
+-- a part that was cut short, of the lines that are read
+stops_part : (texts : List (List ℕ)) (input left unused untaken : List ℕ) (rest : Option (List ℕ)) (a : Standing) (d : Desk)
+    (n0 n1 : Faults) (c0 between c2 : Option (List ℕ)) (fault : ScriptFault) (before : List Part) (part : Part) (after : List Part)
+    (written : List ℕ) → ReadTo texts input left → left ≡ unused ++ untaken → rest ≡ Some untaken
+    → parts_from [] texts ≡ before ++ part ∷ after → Appends c0 between (text_of before a)
+    → (after ≢ []) ⊎ (left ≡ []) → IsCutShort part (course (after_parts before a) d n0 n1 c0 c2) fault written
+    → Appends between c2 written → StoppedInPart input rest (course a d n0 n1 c0 c2) fault
+stops_part texts input left unused untaken rest a d n0 n1 c0 between c2 fault before part after written r is_left is_untaken e ran done short wrote =
+    record {
+      place = place_at texts input left before part after r e;
+      finished = record { unused = unused; untaken = untaken; is_left = is_left; is_untaken = is_untaken; finished = done };
+      written = written;
+      cut_short = short;
+      texts = Appends-trans c0 between c2 (text_of before a) written ran wrote;
+    }
+
+-- out of memory in a part of the lines that are read
+stops_for_memory : (texts : List (List ℕ)) (input left unused untaken : List ℕ) (rest : Option (List ℕ)) (a : Standing) (d : Desk)
+    (n0 n1 : Faults) (c0 between c2 : Option (List ℕ)) (before : List Part) (part : Part) (after : List Part)
+    → ReadTo texts input left → left ≡ unused ++ untaken → rest ≡ Some untaken
+    → parts_from [] texts ≡ before ++ part ∷ after → Appends c0 between (text_of before a)
+    → StopsIn part (course (after_parts before a) d n0 n1 between c2) stops.Memory
+    → IfBegun stops.Memory (course (after_parts before a) d n0 n1 between c2) ((after ≢ []) ⊎ (left ≡ []))
+    → Ends input rest (course a d n0 n1 c0 c2) (Err stops.Memory)
+stops_for_memory texts input left unused untaken rest a d n0 n1 c0 between c2 before part [] r f g e ran did (inl none) =
+    inl (stops_unbegun texts input left a d n0 n1 c0 between c2 before part r e ran none)
+stops_for_memory texts input left unused untaken rest a d n0 n1 c0 between c2 before part (x ∷ after) r f g e ran did (inl none) =
+    inr (stops_part texts input left unused untaken rest a d n0 n1 c0 between c2 stops.Memory before part (x ∷ after) [] r f g e ran
+    (inl (some_first x after)) (inl (none.0, none.1), refl) none.2)
+stops_for_memory texts input left unused untaken rest a d n0 n1 c0 between c2 before part after r f g e ran (inl none) (inr done) =
+    inr (stops_part texts input left unused untaken rest a d n0 n1 c0 between c2 stops.Memory before part after [] r f g e ran
+    done (inl (none.0, none.1), refl) none.2)
+stops_for_memory texts input left unused untaken rest a d n0 n1 c0 between c2 before part after r f g e ran (inr told) (inr done) =
+    inr (stops_part texts input left unused untaken rest a d n0 n1 c0 between c2 stops.Memory before part after [] r f g e ran
+    done (inr (untold_so part (after_parts before a) d n0 n1 between c2 c0 c2 told.0), refl) told.1)
+
+-- a stop in a part of the lines that are read
+stops_in : (texts : List (List ℕ)) (input left unused untaken : List ℕ) (rest : Option (List ℕ)) (a : Standing) (d : Desk)
+    (n0 n1 : Faults) (c0 c2 : Option (List ℕ)) (fault : ScriptFault) → ReadTo texts input left → left ≡ unused ++ untaken
+    → rest ≡ Some untaken
+    → Stops (parts_from [] texts) (course a d n0 n1 c0 c2) fault (λ after. (after ≢ []) ⊎ (left ≡ []))
+    → Ends input rest (course a d n0 n1 c0 c2) (Err fault)
+stops_in texts input left unused untaken rest a d n0 n1 c0 c2 (stops.Store fault) r f g s =
+    inr (stops_part texts input left unused untaken rest a d n0 n1 c0 s.between c2 (stops.Store fault) s.before s.part s.after s.stops.0
+    r f g s.split s.ran s.begun (s.stops.1, s.stops.2) s.stops.3)
+stops_in texts input left unused untaken rest a d n0 n1 c0 c2 stops.Write r f g s =
+    inr (stops_part texts input left unused untaken rest a d n0 n1 c0 s.between c2 stops.Write s.before s.part s.after
+    (take s.stops.1 s.stops.0) r f g s.split s.ran s.begun (s.stops.0, s.stops.1, s.stops.2, s.stops.3, refl) s.stops.4)
+stops_in texts input left unused untaken rest a d n0 n1 c0 c2 stops.Memory r f g s =
+    stops_for_memory texts input left unused untaken rest a d n0 n1 c0 s.between c2 s.before s.part s.after r f g s.split s.ran
+    s.stops s.begun
+stops_in texts input left unused untaken rest a d n0 n1 c0 c2 stops.Read r f g s = absurd s.stops
+stops_in texts input left unused untaken rest a d n0 n1 c0 c2 (stops.NotUtf8 line) r f g s = absurd s.stops
+stops_in texts input left unused untaken rest a d n0 n1 c0 c2 (stops.LineTooLong line) r f g s = absurd s.stops
+
+-- the same, where the parts of the lines are those that were carried out and some more
+stops_after : (texts : List (List ℕ)) (before tail : List Part) (input left unused untaken : List ℕ) (rest : Option (List ℕ))
+    (a b : Standing) (d : Desk) (n0 n1 : Faults) (c0 c1 c2 : Option (List ℕ)) (fault : ScriptFault) → ReadTo texts input left
+    → left ≡ unused ++ untaken → rest ≡ Some untaken → parts_from [] texts ≡ before ++ tail → Runs before a b c0 c1
+    → Stops tail (course b d n0 n1 c1 c2) fault (λ after. (after ≢ []) ⊎ (left ≡ []))
+    → Ends input rest (course a d n0 n1 c0 c2) (Err fault)
+stops_after texts before tail input left unused untaken rest a b d n0 n1 c0 c1 c2 fault r f g e ran s =
+    stops_in texts input left unused untaken rest a d n0 n1 c0 c2 fault r f g
+    (subst (λ (ps : List Part). Stops ps (course a d n0 n1 c0 c2) fault (λ after. (after ≢ []) ⊎ (left ≡ []))) (sym e)
+    (runs_then_stops before tail a b d n0 n1 c0 c1 c2 fault (λ after. (after ≢ []) ⊎ (left ≡ [])) ran s))
 
 -- the end of the input
 pub ends_at : (texts : List (List ℕ)) (before : List Part) (g : List (List ℕ)) (input unused untaken : List ℕ)
     (rest : Option (List ℕ)) (a b : Standing) (d : Desk) (m n0 n1 : Faults) (c0 c1 c2 : Option (List ℕ))
     (r : Result ScriptEnd ScriptFault) → ReadTo texts input (unused ++ untaken) → rest ≡ Some untaken
     → unused ++ untaken ≡ [] → IsCut texts before g → Runs before a b c0 c1
-    → IfErr r IsOfPart → m ≡ n0 → EndsParts (Message g ∷ []) (course b d m n1 c1 c2) r
+    → m ≡ n0 → IsCounted r m n1 → EndsParts (Message g ∷ []) (course b d m n1 c1 c2) r
     → Ends input rest (course a d n0 n1 c0 c2) r
-ends_at texts before g input unused untaken rest a b d m n0 n1 c0 c1 c2 (Ok end) r f e c ran o same ends =
+ends_at texts before g input unused untaken rest a b d m n0 n1 c0 c1 c2 (Ok end) r f e c ran same counted ends =
     let cut = script_cut texts before g input (unused ++ untaken) r c
     ∙ ap (λ (w : List ℕ). before ++ parts_from g (map without_return (raw_lines w))) e in
     let all = subst (λ (ps : List Part). EndsParts ps (course a d n0 n1 c0 c2) (Ok end)) (sym cut)
     (runs_then_ends before (Message g ∷ []) a b d n0 n1 c0 c1 c2 (Ok end) ran ends) in
-    (all_good texts input (unused ++ untaken) r (ap raw_lines e), all.0, all.1, all.2)
-ends_at texts before g input unused untaken rest a b d m n0 n1 c0 c1 c2 (Err fault) r f e c ran o same ends =
-    let here = subst (λ (n : Faults). Stops (Message g ∷ []) (course b d n n1 c1 c2) fault (λ after. ⊤)) same ends in
-    let done : Stops (Message g ∷ []) (course b d n0 n1 c1 c2) fault (λ after. IsFinished after (unused ++ untaken) rest) =
-    stops_so (Message g ∷ []) (course b d n0 n1 c1 c2) fault (λ after. ⊤) (λ after. IsFinished after (unused ++ untaken) rest)
-    (λ after t. ended after (unused ++ untaken) unused untaken rest refl f e) here in
-    stops_in texts before g input (unused ++ untaken) rest a b d n0 n1 c0 c1 c2 fault (λ after. ⊤) r c ran o
-    (subst (λ (w : List ℕ). Stops (parts_from g (map without_return (raw_lines w))) (course b d n0 n1 c1 c2) fault (λ after. ⊤))
-    (sym e) here)
-    (good_stops texts before (Message g ∷ []) input (unused ++ untaken) rest a b d n0 n1 c0 c1 c2 fault r
-    (cut_here texts before g c) ran done)
-
--- a stop in the reading
-unbegun : (fault : ScriptFault) (number : ℕ) (m : List (List ℕ)) (s : Standing) (d : Desk) (n0 n1 : Faults)
-    (c : Option (List ℕ)) → IsReadingFault number fault → d ≡ s.desk → n1 ≡ n0
-    → StopsIn (Message m) (course s d n0 n1 c c) fault
-unbegun stops.Read number m s d n0 n1 c o e n = (tt, (e, n, appends_none c))
-unbegun (stops.NotUtf8 line) number m s d n0 n1 c o e n = (tt, (e, n, appends_none c))
-unbegun (stops.LineTooLong line) number m s d n0 n1 c o e n = (tt, (e, n, appends_none c))
-unbegun stops.Memory number m s d n0 n1 c o e n = inl (e, n, appends_none c)
-unbegun stops.Write number m s d n0 n1 c o e n = absurd o
-unbegun (stops.Store fault) number m s d n0 n1 c o e n = absurd o
-
--- no part is begun while a line is read
-none_begun : (fault : ScriptFault) (number : ℕ) (s : Standing) (d : Desk) (n0 n1 : Faults) (c : Option (List ℕ))
-    (P : Type 0) → IsReadingFault number fault → d ≡ s.desk → n1 ≡ n0 → IfBegun fault (course s d n0 n1 c c) P
-none_begun stops.Read number s d n0 n1 c P o e n = tt
-none_begun (stops.NotUtf8 line) number s d n0 n1 c P o e n = tt
-none_begun (stops.LineTooLong line) number s d n0 n1 c P o e n = tt
-none_begun stops.Memory number s d n0 n1 c P o e n = inl (e, n, appends_none c)
-none_begun stops.Write number s d n0 n1 c P o e n = absurd o
-none_begun (stops.Store fault) number s d n0 n1 c P o e n = absurd o
-
-first_bad : (texts : List (List ℕ)) (before : List Part) (g : List (List ℕ)) (input rest : List ℕ) (line number : ℕ)
-    (P : List ℕ → Type 0) → ReadTo texts input rest → IsCut texts before g → length texts + 1 ≡ number → line ≡ number
-    → (raw : List ℕ) (more : List (List ℕ)) → raw_lines rest ≡ raw ∷ more → P raw → IsFirstBad (raw_lines input) line before P
-first_bad texts before g input rest line number P r c n e raw more is bad = record {
-  good = r.raws;
-  bad = raw;
-  more = more;
-  lines = r.lines ∙ ap (λ (w : List (List ℕ)). r.raws ++ w) is;
-  counted = e ∙ (sym n ∙ ap (λ (k : ℕ). k + 1) (ap length (sym r.texts_are) ∙ length_map without_return r.raws));
-  are_good = r.good;
-  is_bad = bad;
-  gathered = g;
-  parts = read_cut texts (Message g ∷ []) before input rest r (cut_here texts before g c);
-}
-
-place_of_line : (texts : List (List ℕ)) (before : List Part) (g : List (List ℕ)) (input rest : List ℕ) (number : ℕ)
-    (fault : ScriptFault) → ReadTo texts input rest → IsCut texts before g → length texts + 1 ≡ number
-    → IsLineFault number fault rest → IsPlace fault (raw_lines input) before
-place_of_line texts before g input rest number (stops.NotUtf8 line) r c n f =
-    first_bad texts before g input rest line number _ r c n f.0 f.1 f.2 f.3 (f.4, f.5)
-place_of_line texts before g input rest number (stops.LineTooLong line) r c n f =
-    first_bad texts before g input rest line number _ r c n f.0 f.1 f.2 f.3 f.4
-place_of_line texts before g input rest number _ r c n f = tt
-
-pub stops_reading : (texts : List (List ℕ)) (before : List Part) (g : List (List ℕ)) (input left : List ℕ)
-    (rest : Option (List ℕ)) (number : ℕ) (a b : Standing) (d : Desk) (n0 n1 : Faults) (c0 c1 : Option (List ℕ))
-    (fault : ScriptFault) → ReadTo texts input left → IsCut texts before g → Runs before a b c0 c1 → d ≡ b.desk → n1 ≡ n0
-    → length texts + 1 ≡ number → IsReadingFault number fault → IsLineFault number fault left
-    → Ends input rest (course a d n0 n1 c0 c1) (Err fault)
-stops_reading texts before g input left rest number a b d n0 n1 c0 c1 fault r c ran same uncounted n o f =
-    let p = parts_begin g (map without_return (raw_lines left)) in
-    let cut = script_cut texts before g input left r c ∙ ap (λ (w : List Part). before ++ w) p.2 in
-    let still : d ≡ (after_parts before a).desk = same ∙ ap (λ (s : Standing). s.desk) ran.0 in (
-      record {
-        before = before;
-        part = Message p.0;
-        after = p.1;
-        split = cut;
-        between = c1;
-        ran = ran.1;
-        stops = unbegun fault number p.0 (after_parts before a) d n0 n1 c1 o still uncounted;
-        begun = none_begun fault number (after_parts before a) d n0 n1 c1 ⊤ o still uncounted;
-      },
-      place_of_line texts before g input left number fault r c n f,
-      good_stops texts before (Message g ∷ []) input left rest a b d n0 n1 c0 c1 c1 fault r (cut_here texts before g c) ran
-          (one_stops (Message g) b d n0 n1 c1 c1 fault (λ after. IsFinished after left rest)
-          (unbegun fault number g b d n0 n1 c1 o same uncounted)
-          (none_begun fault number b d n0 n1 c1 (IsFinished [] left rest) o same uncounted)),
-    )
+    record {
+      good = all_good texts input (unused ++ untaken) r (ap raw_lines e);
+      carried = record { desk = all.0; faults = counted ∙ same; texts = all.2 };
+      says = all.1;
+    }
+ends_at texts before g input unused untaken rest a b d m n0 n1 c0 c1 c2 (Err fault) r f e c ran same counted ends =
+    stops_after texts before (Message g ∷ []) input (unused ++ untaken) unused untaken rest a b d n0 n1 c0 c1 c2 fault r refl f
+    (cut_here texts before g c) ran
+    (stops_so (Message g ∷ []) (course b d n0 n1 c1 c2) fault (λ after. ⊤) (λ after. (after ≢ []) ⊎ (unused ++ untaken ≡ []))
+    (λ after t. inr e)
+    (subst (λ (n : Faults). Stops (Message g ∷ []) (course b d n n1 c1 c2) fault (λ after. ⊤)) same ends))
 
 -- nothing read, out of memory
 pub stops_at_once : (input : List ℕ) (rest : Option (List ℕ)) (a : Standing) (n : Faults) (c : Option (List ℕ))
     → Ends input rest (course a a.desk n n c c) (Err stops.Memory)
 stops_at_once input rest a n c =
     stops_reading [] [] [] input input rest 1 a a a.desk n n c c stops.Memory (nothing_read input) (λ lines. refl)
-    (runs_none a c) refl refl refl tt tt
+    (runs_none a c) refl refl refl tt
 
 -- a fault of the reading is none of the store
 pub reading_counted : (T : Type 0) (number : ℕ) (fault : ScriptFault) (n m : Faults) → IsReadingFault number fault → m ≡ n
@@ -303,29 +325,18 @@ pub stops_in_line : {r0 r1 r2 : Option (List ℕ)} (texts : List (List ℕ)) (be
     (source unused line : List ℕ) (a b : Standing) (d : Desk) (m n0 n1 : Faults) (c0 c1 c2 : Option (List ℕ))
     (fault : ScriptFault) → m ≡ n0 → Left r0 r1 (λ xs ys. ReadTo texts xs (source ++ ys))
     → Left r1 r2 (λ ys zs. IsNextLine line (source ++ ys) (unused ++ zs)) → IsCut texts before g → Runs before a b c0 c1
-    → IsOfPart fault
     → ((lines : List (List ℕ)) → Stops (parts_from g (line ∷ lines)) (course b d m n1 c1 c2) fault (λ after. after ≢ []))
     → Known r0 (λ xs. Ends xs r2 (course a d n0 n1 c0 c2) (Err fault))
-stops_in_line {r2 = r2} texts before g source unused line a b d m n0 n1 c0 c1 c2 fault same read piece c ran o stop = record {
+stops_in_line {r2 = r2} texts before g source unused line a b d m n0 n1 c0 c1 c2 fault same read piece c ran stop = record {
   known = λ xs e.
       let u = read.known xs e in
       let v = piece.known u.0 u.1 in
-      let p = v.2 in
       let left = unused ++ v.0 in
-      let told : (lines : List (List ℕ))
-      → Stops (parts_from g (line ∷ lines)) (course b d n0 n1 c1 c2) fault (λ after. after ≢ []) =
-      λ lines. subst (λ (n : Faults). Stops (parts_from g (line ∷ lines)) (course b d n n1 c1 c2) fault (λ after. after ≢ []))
-      same (stop lines) in
-      let here : line ∷ map without_return (raw_lines left) ≡ map without_return (raw_lines (source ++ u.0)) =
-      ap (λ (w : List ℕ). w ∷ map without_return (raw_lines left)) p.3 ∙ sym (ap (map without_return) p.1) in
-      let finished : Stops (parts_from g (line ∷ [])) (course b d n0 n1 c1 c2) fault (λ after. IsFinished after left r2) =
-      stops_so (parts_from g (line ∷ [])) (course b d n0 n1 c1 c2) fault (λ after. after ≢ [])
-      (λ after. IsFinished after left r2) (λ after some. followed after unused v.0 r2 v.1 some) (told []) in
-      stops_in texts before g xs (source ++ u.0) r2 a b d n0 n1 c0 c1 c2 fault (λ after. after ≢ []) u.2 c ran o
-      (subst (λ (ls : List (List ℕ)). Stops (parts_from g ls) (course b d n0 n1 c1 c2) fault (λ after. after ≢ [])) here
-      (told (map without_return (raw_lines left))))
-      (good_stops (texts ++ line ∷ []) before (parts_from g (line ∷ [])) xs left r2 a b d n0 n1 c0 c1 c2 fault
-      (read_more texts xs (source ++ u.0) left line u.2 p) (c (line ∷ [])) ran finished);
+      stops_after (texts ++ line ∷ []) before (parts_from g (line ∷ [])) xs left unused v.0 r2 a b d n0 n1 c0 c1 c2 fault
+      (read_more texts xs (source ++ u.0) left line u.2 v.2) refl v.1 (c (line ∷ [])) ran
+      (stops_so (parts_from g (line ∷ [])) (course b d n0 n1 c1 c2) fault (λ after. after ≢ []) (λ after. (after ≢ []) ⊎ (left ≡ []))
+      (λ after some. inl some)
+      (subst (λ (n : Faults). Stops (parts_from g (line ∷ [])) (course b d n n1 c1 c2) fault (λ after. after ≢ [])) same (stop [])));
 }
 
 -- the last line, as one that is read
@@ -342,16 +353,16 @@ pub ends_at_last : {r0 r1 r2 : Option (List ℕ)} (texts : List (List ℕ)) (bef
     → Left r1 r2 (λ ys zs. (raw : List ℕ) × (raw_lines (source ++ ys) ≡ raw ∷ []) × IsGoodLine raw × (line ≡ without_return raw)
     × (unused ++ zs ≡ [])) → IsCut texts before g
     → ((lines : List (List ℕ)) → parts_from g (line ∷ lines) ≡ parts ++ parts_from h lines) → Runs (before ++ parts) a b c0 c1
-    → IfErr r IsOfPart → m ≡ n0 → EndsParts (Message h ∷ []) (course b d m n1 c1 c2) r
+    → m ≡ n0 → IsCounted r m n1 → EndsParts (Message h ∷ []) (course b d m n1 c1 c2) r
     → Known r0 (λ xs. Ends xs r2 (course a d n0 n1 c0 c2) r)
-ends_at_last {r2 = r2} texts before parts g h source unused line a b d m n0 n1 c0 c1 c2 r read piece c f ran o same ends = record {
+ends_at_last {r2 = r2} texts before parts g h source unused line a b d m n0 n1 c0 c1 c2 r read piece c f ran same counted ends = record {
   known = λ xs e.
       let u = read.known xs e in
       let v = piece.known u.0 u.1 in
       let p = v.2 in
       ends_at (texts ++ line ∷ []) (before ++ parts) h xs unused v.0 r2 a b d m n0 n1 c0 c1 c2 r
       (read_more texts xs (source ++ u.0) (unused ++ v.0) line u.2 (no_lines_left line (source ++ u.0) (unused ++ v.0) p))
-      v.1 p.4 (cut_more texts before parts g h line c f) ran o same ends;
+      v.1 p.4 (cut_more texts before parts g h line c f) ran same counted ends;
 }
 
 -- nothing is left, either way
@@ -369,14 +380,14 @@ pub ends_at_end : {r0 r1 r2 : Option (List ℕ)} (texts : List (List ℕ)) (befo
     (source unused : List ℕ) (a b : Standing) (d : Desk) (m n0 n1 : Faults) (c0 c1 c2 : Option (List ℕ))
     (r : Result ScriptEnd ScriptFault) → Left r0 r1 (λ xs ys. ReadTo texts xs (source ++ ys))
     → Left r1 r2 (λ ys zs. (raw_lines (source ++ ys) ≡ []) × (unused ++ zs ≡ [])) → IsCut texts before g → Runs before a b c0 c1
-    → IfErr r IsOfPart → m ≡ n0 → EndsParts (Message g ∷ []) (course b d m n1 c1 c2) r
+    → m ≡ n0 → IsCounted r m n1 → EndsParts (Message g ∷ []) (course b d m n1 c1 c2) r
     → Known r0 (λ xs. Ends xs r2 (course a d n0 n1 c0 c2) r)
-ends_at_end {r2 = r2} texts before g source unused a b d m n0 n1 c0 c1 c2 r read piece c ran o same ends = record {
+ends_at_end {r2 = r2} texts before g source unused a b d m n0 n1 c0 c1 c2 r read piece c ran same counted ends = record {
   known = λ xs e.
       let u = read.known xs e in
       let v = piece.known u.0 u.1 in
       let left = read_end texts xs (source ++ u.0) (unused ++ v.0) u.2 v.2.0 v.2.1 in
-      ends_at texts before g xs unused v.0 r2 a b d m n0 n1 c0 c1 c2 r left v.1 v.2.1 c ran o same ends;
+      ends_at texts before g xs unused v.0 r2 a b d m n0 n1 c0 c1 c2 r left v.1 v.2.1 c ran same counted ends;
 }
 
 pub one_line_more : (texts : List (List ℕ)) (line : List ℕ) (number : ℕ) → length texts + 1 ≡ number

@@ -1,5 +1,5 @@
 -- What a crash leaves after parts of a script, one after another.
-use Rattle.std.proofs.Common.{◌≡◌, ◌⊎◌, inl, inr, ℕ, ◌<◌, ◌≤◌, ◌+◌, ◌-◌, arith, List, [], ◌∷◌, ◌++◌, take, Option, None, Result, Ok, Err}
+use Rattle.std.proofs.Common.{◌≡◌, ◌⊎◌, inl, inr, ℕ, ◌+◌, ◌-◌, arith, List, [], ◌∷◌, ◌++◌, Option, None, Result, Ok, Err}
 use Rattle.std.proofs.Common.{sym, ap, subst, refl, ◌∙◌, append_assoc, map, Some, true}
 use Rattle.version_nodes.specs.Branches.{branched}
 use Rattle.version_nodes.specs.declared.fault.BranchFault.{BranchFault}
@@ -10,7 +10,7 @@ use Rattle.base_faults.specs.declared.store_fault.End.TheVariants as ends
 use Rattle.base_faults.specs.declared.store_fault.StoreFault.{StoreFault}
 use Rattle.store_contract.specs.Crashes.{Holding}
 use Rattle.store_contract.specs.Kept.{Keeping}
-use Rattle.store_contract.specs.Message.{Entry, after_lines, at_start, IsReceived}
+use Rattle.store_contract.specs.Message.{Entry, IsReceived}
 use Rattle.store_contract.specs.Tried.{LeavesTried, tried_at}
 use Rattle.store_contract.proofs.TriedLemmas.{tried_then}
 use Rattle.control_lines.specs.declared.fault.ScriptFault.{ScriptFault}

@@ -4,7 +4,8 @@ use Rattle.std.specs.Io.KnownBytes.{Appends}
 use Rattle.control_lines.specs.declared.fault.ScriptFault.{ScriptFault}
 use Rattle.control_lines.specs.declared.fault.ScriptFault.TheVariants.{Write, Memory, Store}
 use Rattle.desk_run.specs.Script.{Part, Standing, standing, part_text, part_after, text_of, after_parts, end_of_script}
-use Rattle.desk_run.specs.Running.{Course, Writes, StopsIn, Stops}
+use Rattle.desk_run.specs.Running.{Course, Writes}
+use Rattle.desk_run.specs.Stopping.{StopsIn, Stops}
 use Rattle.desk_run.specs.declared.script.ScriptEnd.{ScriptEnd}
 
 -- these parts were carried out, and their texts written

@@ -11,4 +11,6 @@ pub mod Directives
 pub mod Gathering
 pub mod RefusedAndFailed
 pub mod Carrying
+pub mod Stopping
+pub mod Writing
 pub mod Grown

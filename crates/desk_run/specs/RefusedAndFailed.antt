@@ -36,12 +36,11 @@ store_fault (Store fault) = Some fault
 store_fault refusal = None
 
 -- The store failed in a directive: the script ends, and what is written is the fault's text, or a
--- front of it at a failed write, or nothing where there was no memory.
+-- front of it at a failed write.
 abbrev pub TellsFault : StoreFault → Option (List ℕ) → Option (List ℕ) → Result (Unit {0}) ScriptFault → Type 0
 TellsFault fault c0 c1 (Err (stops.Store told)) = (told ≡ fault) × Appends c0 c1 (fault_text fault)
 TellsFault fault c0 c1 (Err stops.Write) =
     (n : ℕ) × (n < length (fault_text fault)) × Appends c0 c1 (take n (fault_text fault))
-TellsFault fault c0 c1 (Err stops.Memory) = Appends c0 c1 []
 TellsFault fault c0 c1 _ = ⊥
 
 -- A question was answered so: its text is written, and whether it refuses goes into the script's

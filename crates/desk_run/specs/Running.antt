@@ -1,9 +1,8 @@
 -- What running a script leaves and has written, at its end and at each fault.
 -- This project's own rule.
-use Rattle.std.specs.Prelude.{ℕ, ◌≡◌, ◌≢◌, ◌⊎◌, ◌+◌, ◌<◌, ◌≤◌, List, [], ◌∷◌, ◌++◌, length, take, map, Option, Some, Result, Ok, Err}
+use Rattle.std.specs.Prelude.{ℕ, ◌≡◌, ◌≢◌, ◌⊎◌, ◌+◌, ◌<◌, List, [], ◌∷◌, ◌++◌, length, take, map, Option, Some, Result, Ok, Err}
 use Rattle.std.specs.Prelude.{⊤}
 use Rattle.std.specs.Io.KnownBytes.{Appends}
-use Rattle.std.specs.Str.{IsUtf8}
 use Rattle.bug_record.specs.Sets.{Each}
 use Rattle.bug_record.specs.Desk.{Desk}
 use Rattle.desk_text.specs.Texts.{fault_text}
@@ -12,7 +11,8 @@ use Rattle.base_faults.specs.declared.store_fault.End.TheVariants as ends
 use Rattle.store_contract.specs.Store.{Faults, counted}
 use Rattle.store_contract.specs.Message.{Entry, IsReceived}
 use Rattle.control_lines.specs.Lines.{raw_lines, without_return}
-use Rattle.control_lines.specs.Reading.{IsGoodLine, IsBegun}
+use Rattle.control_lines.specs.Reading.{IsGoodLine, IsLineFault, IsBegun}
+use Rattle.message_receiving.specs.Ends.{IsLineOf}
 use Rattle.message_directives.specs.Transcripts.{received_text}
 use Rattle.desk_run.specs.Script.{Part, Message, DirectiveLine, Directive, From, Report, Branch, ListOf, Show, Bad, directive_of}
 use Rattle.desk_run.specs.Script.{Standing, parts_of_lines, script_of, part_text, part_after, text_of, after_parts, end_of_script}
@@ -22,7 +22,7 @@ use Rattle.message_directives.specs.Reports.{report_severity}
 use Rattle.message_directives.specs.Questions.{AsksForList}
 use Rattle.message_directives.specs.Branches.{nodes_of}
 use Rattle.control_lines.specs.declared.fault.ScriptFault.{ScriptFault}
-use Rattle.control_lines.specs.declared.fault.ScriptFault.TheVariants.{Read, Write, NotUtf8, LineTooLong, Memory, Store}
+use Rattle.control_lines.specs.declared.fault.ScriptFault.TheVariants.{Write, Memory, Store}
 use Rattle.desk_run.specs.declared.script.ScriptEnd.{ScriptEnd}
 
 -- a directive that asks the store: a report whose words are good, a branch whose words are nodes, a
@@ -36,11 +36,17 @@ AsksStore (Show number) = ⊤
 AsksStore (From sender) = ⊥
 AsksStore Bad = ⊥
 
--- The store failed in a part: a message was received up to a line, and its text ends with the
--- fault's; a directive changed nothing, and its text is the fault's.
+-- The store failed at line k of a message, which is not blank and no comment; the lines before it
+-- came to these outcomes.
+abbrev pub FailsAt : List (List ℕ) → Standing → StoreFault → Desk → List Entry → ℕ → Type 0
+FailsAt lines s fault d outcomes k =
+    IsReceived s.sender lines s.desk outcomes (ends.Store fault k) d × IsLineOf (ends.Store fault k) lines
+
+-- The store failed in a part: a message was received up to a line, and its text ends with that line
+-- and the fault's; a directive changed nothing, and its text is the fault's.
 abbrev pub FaultsIn : Part → Standing → StoreFault → Desk → List ℕ → Type 0
 FaultsIn (Message lines) s fault d text =
-    (outcomes : List Entry) × (k : ℕ) × IsReceived s.sender lines s.desk outcomes (ends.Store fault k) d
+    (outcomes : List Entry) × (k : ℕ) × FailsAt lines s fault d outcomes k
     × (text ≡ received_text outcomes (ends.Store fault k) lines)
 FaultsIn (DirectiveLine line) s fault d text = AsksStore (directive_of line) × (d ≡ s.desk) × (text ≡ fault_text fault)
 
@@ -69,94 +75,121 @@ IsCarried part course text =
     ⊎ ((fault : StoreFault) × FaultsIn part course.from fault course.desk text
     × (course.faults ≡ counted fault course.faults_before))
 
--- nothing was carried out or written
-abbrev pub IsUnbegun : Course → Type 0
-IsUnbegun course =
-    (course.desk ≡ course.from.desk) × (course.faults ≡ course.faults_before) × Writes course []
+-- A part was carried out for which nothing is written, since there was no memory for a transcript:
+-- a message, to its end with no fault; or up to a fault of the store, which is counted, and a line
+-- before that one has an outcome.
+-- No directive is carried out so: the text of a change or of a fault takes no memory.
+abbrev pub IsUntold : Part → Course → Type 0
+IsUntold (Message lines) course =
+    ((course.desk ≡ (part_after (Message lines) course.from).desk) × (course.faults ≡ course.faults_before))
+    ⊎ ((fault : StoreFault) × (outcomes : List Entry) × (k : ℕ) × FailsAt lines course.from fault course.desk outcomes k
+    × (outcomes ≢ []) × (course.faults ≡ counted fault course.faults_before))
+IsUntold (DirectiveLine line) course = ⊥
+
+-- The course of the parts after these.
+abbrev pub course_after : List Part → Course → Course
+course_after parts course = record course { from = after_parts parts course.from }
+
+-- These parts were carried out, with no fault of the store, and their texts written.
+pub record CarriedOut (parts : List Part) (course : Course) : Type 0 where
+  pub desk : course.desk ≡ (after_parts parts course.from).desk
+  pub faults : course.faults ≡ course.faults_before
+  pub texts : Writes course (text_of parts course.from)
+
+-- each line is good: at most 65,536 bytes, and UTF-8
+abbrev pub AreGood : List (List ℕ) → Type 0
+AreGood raws = Each IsGoodLine raws
+
+-- Where a script stands in its input: it has read these lines, which are good, and so much is left
+-- after them; and of the parts of those lines it has come to this one.
+pub record Place (input : List ℕ) : Type 0 where
+  pub lines : List (List ℕ)
+  pub left : List ℕ
+  pub read : raw_lines input ≡ lines ++ raw_lines left
+  pub good : AreGood lines
+  pub before : List Part
+  pub part : Part
+  pub after : List Part
+  pub cut : parts_of_lines (map without_return lines) ≡ before ++ part ∷ after
 
 -- the part is a message
 abbrev pub IsMessage : Part → Type 0
 IsMessage (Message lines) = ⊤
 IsMessage (DirectiveLine line) = ⊥
 
--- How a script stops in a part.
--- At a fault of the store all that is to be written for the part is written; at `Write` a front of
--- it, not all; at `Memory` nothing of it, and the part may not have been begun; at a fault of
--- reading the part is a message that was not begun.
-abbrev pub StopsIn : Part → Course → ScriptFault → Type 0
-StopsIn part course (Store fault) =
-    (text : List ℕ) × FaultsIn part course.from fault course.desk text
-    × (course.faults ≡ counted fault course.faults_before) × Writes course text
-StopsIn part course Write =
-    (text : List ℕ) × (n : ℕ) × (n < length text) × IsCarried part course text × Writes course (take n text)
-StopsIn part course Memory =
-    IsUnbegun course ⊎ ((text : List ℕ) × IsCarried part course text × Writes course [])
-StopsIn part course Read = IsMessage part × IsUnbegun course
-StopsIn part course (NotUtf8 line) = IsMessage part × IsUnbegun course
-StopsIn part course (LineTooLong line) = IsMessage part × IsUnbegun course
+-- The part is the message whose lines are gathered: the lines that were read end with it, and the
+-- next one may belong to it.
+abbrev pub IsGathered : {input : List ℕ} → Place input → Type 0
+IsGathered place = IsMessage place.part × (place.after ≡ [])
 
--- P is true if the part of this course was begun: of a fault of the store and at `Write` it was, of
--- a fault of reading it was not, and at `Memory` it may have been.
-abbrev pub IfBegun : ScriptFault → Course → Type 0 → Type 0
-IfBegun (Store fault) course P = P
-IfBegun Write course P = P
-IfBegun Memory course P = IsUnbegun course ⊎ P
-IfBegun fault course P = ⊤
-
--- the course of the part after these, where so much was written before it
-abbrev pub part_course : Course → List Part → Option (List ℕ) → Course
-part_course course before between = record course { from = after_parts before course.from; written_before = between }
-
--- The parts before one were carried out and their texts written, and in that one the script stops.
--- If that part was begun, P is true of the parts after it.
-pub record Stops (parts : List Part) (course : Course) (fault : ScriptFault) (P : List Part → Type 0) : Type 0 where
-  pub before : List Part
-  pub part : Part
-  pub after : List Part
-  pub split : parts ≡ before ++ part ∷ after
-  -- the bytes written before that part
-  pub between : Option (List ℕ)
-  pub ran : Appends course.written_before between (text_of before course.from)
-  pub stops : StopsIn part (part_course course before between) fault
-  pub begun : IfBegun fault (part_course course before between) (P after)
-
--- each line is good: at most 65,536 bytes, and UTF-8
-abbrev pub AreGood : List (List ℕ) → Type 0
-AreGood raws = Each IsGoodLine raws
-
--- The line of this number, counted from 1, is the first that is not good, and the parts before the
--- message that its lines before this one belong to were carried out.
-pub record IsFirstBad (raws : List (List ℕ)) (number : ℕ) (before : List Part) (P : List ℕ → Type 0) : Type 0 where
-  pub good : List (List ℕ)
-  pub bad : List ℕ
-  pub more : List (List ℕ)
-  pub lines : raws ≡ good ++ bad ∷ more
-  pub counted : number ≡ length good + 1
-  pub are_good : AreGood good
-  pub is_bad : P bad
-  pub gathered : List (List ℕ)
-  pub parts : parts_of_lines (map without_return good) ≡ before ++ Message gathered ∷ []
-
--- A part before these is finished where so much of the input is left after the lines that were
--- read, which were taken from the reader: a part follows it in those lines, or the input has ended.
-pub record IsFinished (after : List Part) (left : List ℕ) (rest : Option (List ℕ)) : Type 0 where
+-- The part is finished: another follows it in the lines that were read, or the input has ended.
+-- Those lines were taken from the reader, which has `rest` left.
+pub record IsFinished {input : List ℕ} (place : Place input) (rest : Option (List ℕ)) : Type 0 where
   -- what was taken from the reader besides those lines
   pub unused : List ℕ
   pub untaken : List ℕ
-  pub is_left : left ≡ unused ++ untaken
+  pub is_left : place.left ≡ unused ++ untaken
   pub is_untaken : rest ≡ Some untaken
-  pub finished : (after ≢ []) ⊎ (left ≡ [])
+  pub finished : (place.after ≢ []) ⊎ (place.left ≡ [])
 
--- No line beyond the good ones that were read played a part in a stop: the first lines, which are
--- good, are a script that stops so too, and in them the part at hand is finished, if it was begun.
--- So a message whose lines are still gathered is not begun.
--- `rest` is what the reader has left.
-pub record StopsInGoodLines (input : List ℕ) (rest : Option (List ℕ)) (course : Course) (fault : ScriptFault) : Type 0 where
-  pub good : List (List ℕ)
-  pub left : List ℕ
-  pub lines : raw_lines input ≡ good ++ raw_lines left
-  pub are_good : AreGood good
-  pub stops : Stops (parts_of_lines (map without_return good)) course fault (λ after. IsFinished after left rest)
+-- How a part was cut short by a fault, and what was written for it: all of its text, where the
+-- store failed; a front of it, not all, where the writer did; nothing, where memory ran out, and
+-- then it was not begun or asked for a list or a page, and changed nothing, or it is a message
+-- whose transcript had no memory.
+-- A fault of reading cuts no part short.
+abbrev pub IsCutShort : Part → Course → ScriptFault → List ℕ → Type 0
+IsCutShort part course (Store fault) written =
+    FaultsIn part course.from fault course.desk written × (course.faults ≡ counted fault course.faults_before)
+IsCutShort part course Write written =
+    (text : List ℕ) × (n : ℕ) × (n < length text) × IsCarried part course text × (written ≡ take n text)
+IsCutShort part course Memory written =
+    (((course.desk ≡ course.from.desk) × (course.faults ≡ course.faults_before)) ⊎ IsUntold part course) × (written ≡ [])
+IsCutShort part course fault written = ⊥
+
+-- The script ran to its end: all of its lines are good, all of its parts were carried out and their
+-- texts written, and the end says whether anything was refused.
+-- Over an empty desk, this script
+--     @report foo 1 normal a
+--     close 1
+--     @show 2
+-- writes `OK 1`, `> close 1`, `OK 1` and `NO no such bug 2`, and ends as refused.
+pub record RanToItsEnd (input : List ℕ) (course : Course) (end : ScriptEnd) : Type 0 where
+  pub good : AreGood (raw_lines input)
+  pub carried : CarriedOut (script_of input) course
+  pub says : end ≡ end_of_script (after_parts (script_of input) course.from).refused
+
+-- The script stopped reading: the parts before the message whose lines were gathered were carried
+-- out and their texts written, that message was not begun, and the fault is that of the next line.
+-- Over an empty desk, this script, whose third line is no UTF-8,
+--     @report foo 1 normal a
+--     close 1
+--     \xff
+-- writes `OK 1` alone, and ends as `NotUtf8(3)`: bug 1 is not closed.
+pub record StoppedReading (input : List ℕ) (course : Course) (fault : ScriptFault) : Type 0 where
+  pub place : Place input
+  pub gathered : IsGathered place
+  pub carried : CarriedOut place.before course
+  pub next : IsLineFault (length place.lines + 1) fault place.left
+
+-- The script stopped in a part that was finished: the parts before it were carried out and their
+-- texts written, and it was cut short.
+-- Over an empty desk whose store is full at its second change, this script
+--     @report foo 1 normal a
+--     close 1
+--     @show 1
+-- writes `OK 1`, `> close 1` and `Store fault: full.`, and ends as `Store(Full)`: bug 1 is not
+-- closed, and no page is shown.
+pub record StoppedInPart (input : List ℕ) (rest : Option (List ℕ)) (course : Course) (fault : ScriptFault) : Type 0 where
+  pub place : Place input
+  pub finished : IsFinished place rest
+  pub written : List ℕ
+  pub cut_short : IsCutShort place.part (course_after place.before course) fault written
+  pub texts : Writes course (text_of place.before course.from ++ written)
+
+-- What a script over this input leaves and has written, where its reader has so much left.
+abbrev pub Ends : List ℕ → Option (List ℕ) → Course → Result ScriptEnd ScriptFault → Type 0
+Ends input rest course (Ok end) = RanToItsEnd input course end
+Ends input rest course (Err fault) = StoppedReading input course fault ⊎ StoppedInPart input rest course fault
 
 -- What a script has read of its input at a failed read: good lines, and a front of the next one,
 -- of at most 65,536 bytes.
@@ -166,25 +199,6 @@ pub record IsReadInPart (input rest : List ℕ) : Type 0 where
   pub lines : raw_lines input ≡ good ++ raw_lines left
   pub are_good : AreGood good
   pub begun : IsBegun left rest
-
--- where a fault of a line comes
-abbrev pub IsPlace : ScriptFault → List (List ℕ) → List Part → Type 0
-IsPlace (NotUtf8 number) raws before = IsFirstBad raws number before (λ raw. (length raw ≤ 65536) × ¬ IsUtf8 raw)
-IsPlace (LineTooLong number) raws before = IsFirstBad raws number before (λ raw. 65536 < length raw)
-IsPlace fault raws before = ⊤
-
--- What a script over this input leaves and has written, where its reader has so much left.
--- At its end all lines are good, all parts are carried out and their texts written, and the end
--- says whether anything was refused; at a fault it stops in a part, and did nothing for a line that
--- is not good, nor for a message whose lines were still gathered.
-abbrev pub Ends : List ℕ → Option (List ℕ) → Course → Result ScriptEnd ScriptFault → Type 0
-Ends input rest course (Ok end) =
-    AreGood (raw_lines input) × (course.desk ≡ (after_parts (script_of input) course.from).desk)
-    × (end ≡ end_of_script (after_parts (script_of input) course.from).refused)
-    × Writes course (text_of (script_of input) course.from)
-Ends input rest course (Err fault) =
-    (stop : Stops (script_of input) course fault (λ after. ⊤)) × IsPlace fault (raw_lines input) stop.before
-    × StopsInGoodLines input rest course fault
 
 -- The store's faults after a script, or a part of one.
 -- Before `Write` and `Memory` the store may have failed once: where it has not, or failed for want

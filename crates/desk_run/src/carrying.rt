@@ -18,13 +18,11 @@ use crate::directive::{Directive, ReportWords, read_directive};
 use crate::refused_and_failed::{
     fault_of_branch, fault_of_end, refuses, refuses_branch, store_fault,
 };
+use crate::writing::{write_branch, write_fault, write_received, write_report};
 use control_lines::{ScriptFault, write_out};
 use debver::Text;
-use desk_text::{
-    StoreFault, bad_directive_answer, bad_version_answer, branch_answer, fault_answer,
-    report_answer,
-};
-use message_directives::{QuestionFault, Told, list_of, page_of, received_bytes, report};
+use desk_text::{StoreFault, bad_directive_answer, bad_version_answer};
+use message_directives::{QuestionFault, Told, list_of, page_of, report};
 use message_receiving::receive_lines;
 use std::alloc::Global;
 use std::io::Write;
@@ -73,10 +71,10 @@ pub(crate) fn finish_message<S: Records, W: Write>(
 {
     let lines = run.gathered.as_slice();
     let received = receive_lines(alloc, store, run.sender.as_str(), lines);
-    let Ok(text) = received_bytes(alloc, &received, lines) else {
-        return Err(ScriptFault::Memory);
-    };
-    write_out(writer, text.as_slice())?;
+    match write_received(alloc, writer, &received, lines) {
+        Ok(()) => {}
+        Err(stop) => return Err(stop),
+    }
     if let Some(fault) = fault_of_end(received.end) {
         return Err(ScriptFault::Store(fault));
     }
@@ -136,10 +134,10 @@ fn carry_report<S: Records, W: Write>(
         words.severity,
         words.title,
     );
-    let Ok(text) = report_answer(alloc, &answer) else {
-        return Err(ScriptFault::Memory);
-    };
-    write_out(writer, text.as_slice())?;
+    match write_report(writer, &answer) {
+        Ok(()) => {}
+        Err(stop) => return Err(stop),
+    }
     match answer {
         Ok(_) => Ok(()),
         Err(fault) => match store_fault(fault) {
@@ -154,7 +152,6 @@ fn carry_report<S: Records, W: Write>(
 
 // Carries the branch of these nodes out.
 fn carry_nodes<S: Records, W: Write>(
-    alloc: Global,
     store: &mut S,
     writer: &mut W,
     run: &mut Run,
@@ -180,10 +177,10 @@ fn carry_nodes<S: Records, W: Write>(
     ensures gathered { run.new.gathered.items ≡ run.old.gathered.items }
 {
     let answer = store.branch(nodes);
-    let Ok(text) = branch_answer(alloc, &answer) else {
-        return Err(ScriptFault::Memory);
-    };
-    write_out(writer, text.as_slice())?;
+    match write_branch(writer, &answer) {
+        Ok(()) => {}
+        Err(stop) => return Err(stop),
+    }
     if let Some(fault) = fault_of_branch(&answer) {
         return Err(ScriptFault::Store(fault));
     }
@@ -192,21 +189,17 @@ fn carry_nodes<S: Records, W: Write>(
 }
 
 // Writes that the store failed in a directive, which ends the script.
-fn write_fault<W: Write>(
-    alloc: Global,
-    writer: &mut W,
-    fault: StoreFault,
-) -> Result<(), ScriptFault>
+fn tell_fault<W: Write>(writer: &mut W, fault: StoreFault) -> Result<(), ScriptFault>
     ensures { TellsFault fault (W.contents writer.old) (W.contents writer.new) result }
 {
-    let text = fault_answer(alloc, fault)?;
-    write_out(writer, text.as_slice())?;
-    Err(ScriptFault::Store(fault))
+    match write_fault(writer, fault) {
+        Ok(()) => Err(ScriptFault::Store(fault)),
+        Err(stop) => Err(stop),
+    }
 }
 
 // Writes what a question is told, and keeps whether it is refused; or tells that the store failed.
 fn answer_question<W: Write>(
-    alloc: Global,
     writer: &mut W,
     run: &mut Run,
     answer: Result<Told, QuestionFault>,
@@ -222,7 +215,7 @@ fn answer_question<W: Write>(
             Ok(())
         }
         Err(QuestionFault::Memory) => Err(ScriptFault::Memory),
-        Err(QuestionFault::Store(fault)) => write_fault(alloc, writer, fault),
+        Err(QuestionFault::Store(fault)) => tell_fault(writer, fault),
     }
 }
 
@@ -258,17 +251,17 @@ pub(crate) fn carry_out<S: Records, W: Write>(
         }
         Directive::Report(words) => carry_report(alloc, store, writer, run, line, words),
         Directive::Branch(words) => match read_nodes(alloc, words) {
-            Ok(nodes) => carry_nodes(alloc, store, writer, run, line, nodes.as_slice()),
+            Ok(nodes) => carry_nodes(store, writer, run, line, nodes.as_slice()),
             Err(NodeFault::BadNode) => refuse(writer, run, bad_version_answer()),
             Err(NodeFault::Memory) => Err(ScriptFault::Memory),
         },
         Directive::ListOf(words) => {
             let answer = list_of(alloc, store, words.package, words.version);
-            answer_question(alloc, writer, run, answer)
+            answer_question(writer, run, answer)
         }
         Directive::Show(number) => {
             let answer = page_of(alloc, store, number);
-            answer_question(alloc, writer, run, answer)
+            answer_question(writer, run, answer)
         }
         Directive::Bad => refuse(writer, run, bad_directive_answer()),
     }

@@ -9,6 +9,7 @@ mod directive;
 mod laws;
 mod refused_and_failed;
 mod script;
+mod writing;
 
 pub use control_lines::ScriptFault;
 pub use desk_text::End;

@@ -7,7 +7,8 @@ ghost use Rattle.desk_run.specs.Script.{Part, Message, standing, begin, script_o
 ghost use Rattle.desk_run.specs.Tried.{LeavesParts};
 ghost use Rattle.desk_run.specs.Gathering.{parts_from};
 ghost use Rattle.control_lines.specs.Reading.{Known, Left};
-ghost use Rattle.desk_run.specs.Running.{Stops, IsCounted, IsReadInPart, Ends};
+ghost use Rattle.desk_run.specs.Running.{IsCounted, IsReadInPart, Ends};
+ghost use Rattle.desk_run.specs.Stopping.{Stops};
 ghost use Rattle.desk_run.specs.Carrying.{Runs, Carries, IsOfPart, EndsParts};
 
 use crate::carrying::{Run, carry_out, finish_message};
@@ -102,13 +103,14 @@ fn finish_script<S: Records, W: Write>(
 /// Where it answers `Ok` it has read to the end, and has written the script's output and nothing
 /// else.
 /// A fault of the store ends the script as `Store` of that very fault, and what was written is the
-/// output up to there with the fault's text; where that text could not be built or written, as
-/// `Memory` or `Write`.
+/// output up to there with the line at which it failed, in a message, and the fault's text, which
+/// take no memory; where they could not be written, as `Write`, and where there was no memory for
+/// the answers to the message's lines before that one, as `Memory`.
 /// After `Read` (also where more than 16,777,216 reads were needed), `NotUtf8` and `LineTooLong`
 /// the text of all earlier parts was written, whole, and the message whose lines were being
-/// gathered was not begun; after `Memory` the same, and a part that was finished in the lines read,
-/// by a directive that follows it or by the end, may have been carried out, with nothing written
-/// for it;
+/// gathered was not begun; after `Memory` the same, and of the next part, if it was finished in the
+/// lines read, by a directive that follows it or by the end, nothing was written: a directive has
+/// changed nothing, and a message may have been carried out;
 /// after `Write` a front of the output, and not all of what was to be written for the part at hand.
 /// `NotUtf8` and `LineTooLong` name the first line of either kind; one that is both is too long.
 /// At `Read` good lines were taken from the reader, and at most 65,536 bytes of the next one.

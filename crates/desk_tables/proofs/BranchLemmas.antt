@@ -1,7 +1,8 @@
 -- What a branch comes to, and leaves of what is remembered.
 use Rattle.desk_tables.proofs.Imports.{IsGrown, Branches, IsRefusal, content_seen, desk_seen, keeping_seen, IsKept, Remembered, IsDesk, HasContent, AreTablesAfter, StillShows, IsChanged, IsTaken}
-use Rattle.table_schema.proofs.Exports.{◌≡◌, ◌≢◌, List, Some, Result, Ok, Err, IsTrue, refl, sym, ap, subst, ◌∙◌, ⊤, Held, state, State, HasCleanDisk, Survives, survives_weaker, branched, IsBranched, Node, Ancestry, IsForest, StoreFault, Foreign, with_nodes, Content, IsKeptContent, desk_in, keeping_in, seen, none, acts_none}
+use Rattle.table_schema.proofs.Exports.{◌≡◌, List, Some, Result, Ok, Err, IsTrue, refl, sym, ap, subst, ◌∙◌, ⊤, Held, state, State, HasCleanDisk, Survives, survives_weaker, branched, IsBranched, Node, Ancestry, IsForest, StoreFault, IsFaultOf, memory_fault, with_nodes, Content, IsKeptContent, desk_in, keeping_in, seen, none, acts_none}
 use Rattle.sqlite_trees.specs.declared.store.Store as store
+use Rattle.base_faults.specs.declared.store_fault.StoreFault.TheVariants.{Memory as NoMemory}
 use Rattle.version_nodes.specs.declared.fault.BranchFault.{BranchFault}
 use Rattle.version_nodes.specs.declared.fault.BranchFault.TheVariants.{Memory}
 use Rattle.table_content.proofs.QuestionLemmas.{branch_kept}
@@ -20,12 +21,12 @@ pub survives_same : (s : State) → Survives s s (λ _. ⊥)
 survives_same s = (acts_none s none (λ _. ⊤) (λ c d a. ⊤) (λ c. tt)).survives
 
 -- nothing was done
-pub changed_none : (s : State) (fault : StoreFault) (Fits : Content → Type 0) (after : Content → Content) → fault ≢ Foreign → IsChanged s s (Err fault) Fits after
-changed_none s fault Fits after other = record {
+pub changed_none : (s : State) (fault : StoreFault) (Fits : Content → Type 0) (after : Content → Content) → fault ≡ NoMemory → IsChanged s s (Err fault) Fits after
+changed_none s fault Fits after is = record {
   honest = λ clean. clean;
   ok = λ c clean shows fits. tt;
   err = still_same s;
-  sure = λ c clean shows fits. other;
+  cause = λ c clean shows fits. memory_fault s s fault is;
   crash = λ c both. survives_weaker s s _ _ (λ clean db none. absurd none) (survives_same s);
 }
 
@@ -53,7 +54,7 @@ module _ (t u : Ancestry) (nodes changed : List Node) (old new : State) where
     ok = λ c clean shows kept same. h.ok c clean shows (grows c grown kept same);
     refused = λ c shows. tt;
     err = λ c shows. tt;
-    sure = λ c clean shows kept same. tt;
+    cause = λ c clean shows kept same. tt;
     crash = crashes (Ok tt) is grown h;
   }
 
@@ -64,18 +65,18 @@ module _ (t u : Ancestry) (nodes changed : List Node) (old new : State) where
     ok = λ c clean shows kept same. tt;
     refused = λ c shows. tt;
     err = λ c shows. h.err c shows;
-    sure = λ c clean shows kept same. h.sure c clean shows (grows c grown kept same);
+    cause = λ c clean shows kept same. h.cause c clean shows (grows c grown kept same);
     crash = crashes (Err fault) is grown h;
   }
 
-pub taken_none : (t u : Ancestry) (nodes : List Node) (s : State) (fault : StoreFault) → fault ≢ Foreign → IsTaken t u nodes s s (Err fault)
-taken_none t u nodes s fault other = record {
+pub taken_none : (t u : Ancestry) (nodes : List Node) (s : State) (fault : StoreFault) → fault ≡ NoMemory → IsTaken t u nodes s s (Err fault)
+taken_none t u nodes s fault is = record {
   honest = λ clean. clean;
   answer = tt;
   ok = λ c clean shows kept same. tt;
   refused = λ c shows. tt;
   err = still_same s;
-  sure = λ c clean shows kept same. other;
+  cause = λ c clean shows kept same. memory_fault s s fault is;
   crash = λ c both. survives_weaker s s _ _ (λ clean db none. absurd none) (survives_same s);
 }
 
@@ -86,7 +87,7 @@ taken_refused t u nodes s refusal is other = record {
   ok = λ c clean shows kept same. tt;
   refused = still_same s;
   err = λ c shows. tt;
-  sure = λ c clean shows kept same. tt;
+  cause = λ c clean shows kept same. tt;
   crash = λ c both. survives_weaker s s _ _ (λ clean db none. absurd none) (survives_same s);
 }
 
@@ -116,8 +117,8 @@ module _ {S : Type 0} (g : store.Ghosts S) (last old new : Held S) (t u : Ancest
   now : WasKept → HasContent c (state g old)
   now was = shows_now (state g last) (state g old) c (stays c was.shown) was.shown
 
-  pub never_foreign : (fault : StoreFault) → IsTaken t u nodes (state g old) (state g new) (faulty fault) → WasKept → HasCleanDisk (state g new) → fault ≢ Foreign
-  never_foreign fault h was clean = h.sure c clean (now was) was.content (sym was.tree)
+  pub caused : (fault : StoreFault) → IsTaken t u nodes (state g old) (state g new) (faulty fault) → WasKept → HasCleanDisk (state g new) → IsFaultOf (state g old) (state g new) fault
+  caused fault h was clean = h.cause c clean (now was) was.content (sym was.tree)
 
   pub crashed : (r : Answer) → IsTaken t u nodes (state g old) (state g new) r → (HasCleanDisk (state g new) → WasKept) → Survives (state g old) (state g new) (AreTablesAfter c nodes)
   crashed r h was = h.crash c (λ clean. let w = was clean in (now w, w.content, sym w.tree))
@@ -133,7 +134,7 @@ module _ {S : Type 0} (g : store.Ghosts S) (last old new : Held S) (t u : Ancest
   noted_anew last' h forest is = record {
     kept = λ was clean.
         let d = done was clean in
-        noted_kept g last' new (Some u) known (with_nodes u c) is (says was clean) (λ _ o. (d.1, d.2)) (branch_kept c u was.content forest) refl (record { sets = was.known.sets; place = was.known.place });
+        noted_kept g last' new (Some u) known (with_nodes u c) is (says was clean) (λ _ o. (d.1, d.2)) (branch_kept c u was.content forest) refl (record { sets = was.known.sets; place = was.known.place; next = was.known.next });
     desk = λ was clean.
         subst (λ k. Branches (desk_seen g last) (desk_in k) taken nodes) (sym (says was clean))
         (subst (λ n. branched n nodes ≡ Ok u) was.tree h.answer.0, refl);

@@ -6,7 +6,7 @@ pub use Rattle.store_contract.specs.Crashes.{Holding}
 pub use Rattle.store_contract.specs.Store.{Answers, AreWaitingOn, Branches, IsRefusal, Keeps, MayBeKept, with_change}
 pub use Rattle.desk_tables.specs.Desk.{HasKeptTables, LeavesTables, content_shown, remembered, state_of}
 pub use Rattle.desk_tables.specs.Files.{HoldCopy, HoldDesk, IsFoundIn, LeaveDesk}
-pub use Rattle.desk_tables.specs.Kept.{AreKnown, AreRemembered, IsKept, Remembered, desk_seen, keeping_seen}
+pub use Rattle.desk_tables.specs.Kept.{AreKnown, AreRemembered, IsKept, IsNextIn, Remembered, desk_seen, keeping_seen, next_after}
 unfoldable pub use Rattle.desk_tables.specs.Kept.{content_seen}
 pub use Rattle.table_opening.specs.Opening.{IsLeft, IsReason, unlimited}
 pub use Rattle.desk_tables.specs.Crashes.{AreTablesAfter, AreTablesHolding, LeavesOf}

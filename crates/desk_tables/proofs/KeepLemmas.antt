@@ -1,5 +1,5 @@
 -- What an outcome that is kept leaves of what is remembered.
-use Rattle.desk_tables.proofs.Imports.{AreKnown, HasTreeIfAny, IsKnownIn, IsNextPlace, Keeps, MayBeKept, with_change}
+use Rattle.desk_tables.proofs.Imports.{AreKnown, HasTreeIfAny, IsKnownIn, IsNextIn, IsNextPlace, Keeps, MayBeKept, next_after, with_change}
 use Rattle.table_schema.proofs.Exports.{◌≡◌, ℕ, List, Option, None, Some, refl, ap, ◌∙◌, Ancestry, IsText, IfGiven, HasMember, FitsDesk, Each, Change, Outcome, FitsContent, cleared_for, Content, MayBePut, changed_by, kept_after, IsKeptContent, desk_in, keeping_in, after_keeping, after_kept, change_desk, put_nodes, no_nodes}
 use Rattle.bug_record.specs.Images.{AreApart}
 use Rattle.bug_record.specs.declared.bug.SetImage.{SetImage}
@@ -28,6 +28,12 @@ pub line_known : (change : Option Change) (c : Content) (known known' : ℕ → 
     → IsPartOf known' (followed change known) → AreKnown known' (changed_by change c)
 line_known None c known known' kept fits was part k i e = was k i (part k i e)
 line_known (Some change) c known known' kept fits was part k i e = known_after change c known known' kept fits was part k i e
+
+-- the next number that is known after it, and after the outcome
+pub line_next : (change : Option Change) (c : Content) (id sender message : List ℕ) (outcome : Outcome) (known : Option ℕ) → IsNextIn known c
+    → IsNextIn (next_after change known) (kept_after id sender message outcome change c)
+line_next None c id sender message outcome known is = is
+line_next (Some change) c id sender message outcome known is = refl
 
 -- ---- over what was seen
 

@@ -1,6 +1,6 @@
 -- What a question and a change leave of what is remembered.
-use Rattle.desk_tables.proofs.Imports.{HasTree, IsKnownIn, IsPlaceIn, Answers, state_of, content_shown, HasKeptTables, content_seen, desk_seen, IsKept, AreKnown, AreRemembered, Remembered, IsDesk, HasContent, AreTablesOf, StillShows, IsAsked, IsChanged}
-use Rattle.table_schema.proofs.Exports.{◌≡◌, ◌≢◌, inl, inr, ℕ, List, [], ◌∷◌, Option, None, Some, is_some, false, true, true≢false, Result, Ok, Err, OnOk, IfOk, IfErr, IfSome, IsTrue, arith, refl, sym, ap, subst, ◌∙◌, length, Held, state, HasCleanDisk, Survives, Ancestry, HasMember, IsSetOf, Change, StoreFault, Foreign, FitsContent, all_stay, changed, cleared_for, Content, IsKeptContent, desk_in, change_kept, put_nodes, no_nodes, seen}
+use Rattle.desk_tables.proofs.Imports.{HasTree, IsKnownIn, IsPlaceIn, Answers, state_of, content_shown, HasKeptTables, content_seen, desk_seen, IsKept, AreKnown, AreRemembered, IsNextIn, Remembered, IsDesk, HasContent, AreTablesOf, StillShows, IsAsked, IsChanged}
+use Rattle.table_schema.proofs.Exports.{◌≡◌, inl, inr, ℕ, List, [], ◌∷◌, Option, None, Some, is_some, false, true, true≢false, Result, Ok, Err, OnOk, IfOk, IfErr, IfSome, IsTrue, arith, refl, sym, ap, subst, ◌∙◌, length, Held, state, HasCleanDisk, Survives, Ancestry, HasMember, IsSetOf, Change, StoreFault, IsFaultOf, FitsContent, all_stay, changed, cleared_for, Content, IsKeptContent, desk_in, change_kept, put_nodes, no_nodes, seen}
 use Rattle.sqlite_trees.specs.declared.store.Store as store
 use Rattle.bug_record.specs.Desk.{Desk}
 use Rattle.bug_record.specs.declared.bug.SetImage.{SetImage}
@@ -56,13 +56,13 @@ module _ {S A : Type 0} (g : store.Ghosts S) (last old new : Held S) (family : O
   pub record IsNoted : Type 0 where
     pub honest : HasCleanDisk (state g new) → HasCleanDisk (state g old)
     pub fact : IsKept g last family known → HasCleanDisk (state g new) → Answers (desk_seen g last) (desk_seen g last) r (P c)
-    pub never : IsKept g last family known → HasCleanDisk (state g new) → IfErr r (λ fault. fault ≢ Foreign)
+    pub cause : IsKept g last family known → HasCleanDisk (state g new) → IfErr r (IsFaultOf (state g old) (state g new))
 
   pub noted : IsAsked (state g old) (state g new) r Fits P → StillShows (state g last) (state g old) → (IsKept g last family known → HasCleanDisk (state g old) → Fits c) → IsNoted
   noted asked stays fits = record {
     honest = early;
     fact = λ was clean. answers (desk_seen g last) r (P c) (asked.ok c clean (now was) (fits was (early clean)));
-    never = λ was clean. asked.sure c clean (now was) (fits was (early clean));
+    cause = λ was clean. asked.cause c clean (now was) (fits was (early clean));
   }
     where
       now : IsKept g last family known → HasContent c (state g old)
@@ -92,8 +92,8 @@ module _ {S : Type 0} (g : store.Ghosts S) (last old new : Held S) (family : Opt
   crashed r changes was = changes.crash (content_seen g last) (λ clean. let w = was clean in (now w, fits w (changes.honest clean)))
 
   -- it was not made
-  pub never_foreign : (fault : StoreFault) → IsChanged (state g old) (state g new) (refused fault) Fits after → WasKept → HasCleanDisk (state g new) → fault ≢ Foreign
-  never_foreign fault changes was clean = changes.sure (content_seen g last) clean (now was) (fits was (changes.honest clean))
+  pub caused : (fault : StoreFault) → IsChanged (state g old) (state g new) (refused fault) Fits after → WasKept → HasCleanDisk (state g new) → IsFaultOf (state g old) (state g new) fault
+  caused fault changes was clean = changes.cause (content_seen g last) clean (now was) (fits was (changes.honest clean))
 
   -- it was made, and after it the connection was noted anew
   pub record IsTaken (last' : Held S) (known' : Remembered) : Type 0 where
@@ -166,10 +166,11 @@ recalled_in key known c was None is = tt
 recalled_in key known c was (Some i) is = known_in key known c was is.0 i is.1
 
 -- of nothing that is remembered nothing is said
-pub none_known : (known : Remembered) (c : Content) → ((k : ℕ) → known.sets k ≡ None) → known.place ≡ None → AreRemembered known c
-none_known known c none nowhere = record {
+pub none_known : (known : Remembered) (c : Content) → ((k : ℕ) → known.sets k ≡ None) → known.place ≡ None → known.next ≡ None → AreRemembered known c
+none_known known c none nowhere unread = record {
   sets = λ k i e. absurd (none-some i (sym (none k) ∙ e));
   place = subst (λ p. IsPlaceIn p c) (sym nowhere) tt;
+  next = subst (λ n. IsNextIn n c) (sym unread) tt;
 }
 
 -- a set that was found is learnt

@@ -12,11 +12,11 @@ use Rattle.desk_tables.proofs.KeptLemmas.{content_is, noted_kept, none_known}
 -- ---- a new desk
 
 module _ {S : Type 0} (g : store.Ghosts S) (first : ℕ) (last conn : Held S) (is : last ≡ conn) (desk : IsDesk (state g conn) × (seen (state g conn) ≡ no_content first)) where
-  pub new_is_kept : (family : Option Ancestry) → family ≡ None → (known : Remembered) → ((k : ℕ) → known.sets k ≡ None) → known.place ≡ None → 0 < first → first ≤ LARGEST_NUMBER → IsKept g last family known
-  new_is_kept family none known unknown nowhere low high =
+  pub new_is_kept : (family : Option Ancestry) → family ≡ None → (known : Remembered) → ((k : ℕ) → known.sets k ≡ None) → known.place ≡ None → known.next ≡ None → 0 < first → first ≤ LARGEST_NUMBER → IsKept g last family known
+  new_is_kept family none known unknown nowhere unread low high =
       noted_kept g last conn family known (no_content first) is (ap (content_seen g) is ∙ content_is g conn ∙ desk.1) (λ clean o. desk) (new_kept first low high)
       (subst (λ f. IfSome f (λ t. t ≡ (no_content first).nodes)) (sym none) tt)
-      (none_known known (no_content first) unknown nowhere)
+      (none_known known (no_content first) unknown nowhere unread)
 
   pub new_is_empty : desk_seen g last ≡ empty_desk first
   new_is_empty = ap (desk_seen g) is ∙ ap desk_in (content_is g conn ∙ desk.1)

@@ -1,8 +1,8 @@
 -- What a transaction comes to: a question that is rolled back, and a change that is committed.
 use Rattle.desk_tables.proofs.Imports.{IsDeskOf, IsLeft, HasContent, IsAsBefore, AsksInside, IsAsked, IsChanged, IsDone, Ends}
-use Rattle.table_schema.proofs.Exports.{◌≡◌, Result, Ok, Err, IfOk, IfErr, IsTrue, None, false, arith, refl, sym, ap, subst, ◌∙◌, ⊤, Held, state, Ghosts, State, HasCleanDisk, Survives, IsRolledBack, survives_then, StoreFault, Content, no_content, IsInside, seen, Goes, Acts, Serves, acts_none}
+use Rattle.table_schema.proofs.Exports.{◌≡◌, Result, Ok, Err, IfOk, IfErr, IsTrue, None, false, arith, refl, sym, ap, subst, ◌∙◌, ⊤, Held, state, Ghosts, State, HasCleanDisk, Survives, IsRolledBack, faults_sooner, survives_then, StoreFault, Content, no_content, IsInside, seen, Goes, Acts, Serves, acts_none}
 use Rattle.table_opening.proofs.StillLemmas.{left_still}
-use Rattle.table_opening.proofs.TransactionLemmas.{begun, undone, Leads, committed}
+use Rattle.table_opening.proofs.TransactionLemmas.{begun, unbegun_all, undone, Leads, committed}
 
 -- ---- a question in a transaction that is rolled back
 
@@ -15,7 +15,7 @@ module _ {A : Type 0} (r : Result A StoreFault) (Fits : Content → Type 0) (P :
     survives = survives_then old mid new _ _ (λ _. ⊥) (λ _ db none. none) (λ _ db none. none) (record { clean = one.clean; shield = one.shield; counts = one.counts; limit = one.limit; closes = one.closes; crash = one.crash }) survives;
     stays = λ c shows. undone old mid new early (λ clean. asks.keeps (late clean) (inside c clean shows)) back c shows;
     ok = λ c clean shows. asks.ok c (late clean) (inside c clean shows) (λ o. (shows (early clean) o).1);
-    sure = λ c clean shows. asks.sure c (late clean) (inside c clean shows) (λ o. (shows (early clean) o).1);
+    cause = λ c clean shows fits. unbegun_all old new r (faults_sooner (begun old) mid new (λ _. ⊥) r (asks.cause c (late clean) (inside c clean shows) (λ o. (shows (early clean) o).1) fits) survives);
   }
     where
       one : Survives (begun old) mid (λ _. ⊥)
@@ -43,7 +43,7 @@ module _ {A : Type 0} (r : Result A StoreFault) (Fits : Content → Type 0) (P :
     survives = acts.survives;
     keeps = acts.keeps;
     ok = λ c clean inside says fits. answered r c says fits (serves clean inside) (acts.ok clean inside);
-    sure = λ c clean inside says fits. acts.sure clean inside (λ o. subst Free (sym (says o)) (free c fits));
+    cause = λ c clean inside says fits. acts.cause clean inside (λ o. subst Free (sym (says o)) (free c fits));
   }
     where
       answered : (r : Result A StoreFault) (c : Content) → (IsTrue old.is_open → seen old ≡ c) → Fits c → IfOk r (λ _. IsTrue old.is_open) → IfOk r (λ a. Goes old new (λ c d. (d ≡ c) × Q c a)) → IfOk r (P c)
@@ -54,7 +54,7 @@ module _ {A : Type 0} (r : Result A StoreFault) (Fits : Content → Type 0) (P :
 pub asks_known : {A : Type 0} (s : State) (a : A) (Fits : Content → Type 0) (P : Content → A → Type 0) → ((c : Content) → Fits c → P c a) → AsksInside s s (Ok a) Fits P
 asks_known s a Fits P known =
     let none = acts_none s a Fits (λ c d b. ⊤) (λ c. tt) in
-    record { survives = none.survives; keeps = none.keeps; ok = λ c clean inside says fits. known c fits; sure = λ c clean inside says fits. tt }
+    record { survives = none.survives; keeps = none.keeps; ok = λ c clean inside says fits. known c fits; cause = λ c clean inside says fits. tt }
 
 -- ---- a change in a transaction that is committed
 
@@ -64,7 +64,7 @@ module _ (old mid new : State) (did r : Result (Unit {0}) StoreFault) (limit : o
     honest = (all (no_content 0)).honest;
     ok = λ c. (all c).ok;
     err = λ c shows. shown r c ((all c).err shows) shows;
-    sure = λ c. (all c).sure;
+    cause = λ c. (all c).cause;
     crash = λ c. (all c).crash;
   }
     where
@@ -96,5 +96,5 @@ module _ (old mid new : State) (did r : Result (Unit {0}) StoreFault) (limit : o
         keeps = λ clean shows. runs.keeps clean (inside c clean shows);
         goes_on = λ clean shows. begun_still did (runs.ok clean (inside c clean shows));
         went = λ clean shows fits. goes did c (λ o. (shows (early clean) o).1) fits (serves clean (inside c clean shows)) (runs.ok clean (inside c clean shows));
-        sure = λ clean shows fits. runs.sure clean (inside c clean shows) (λ o. subst Fits (sym (shows (early clean) o).1) fits);
+        cause = λ clean shows fits. runs.cause clean (inside c clean shows) (λ o. subst Fits (sym (shows (early clean) o).1) fits);
       }) r ends idle

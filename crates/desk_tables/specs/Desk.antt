@@ -1,5 +1,5 @@
 -- What is said of a desk in tables, in the words of a store.
-use Rattle.std.specs.Prelude.{◌≢◌, ℕ, List, Option, Result, IfErr}
+use Rattle.std.specs.Prelude.{ℕ, List, Option, Result, IfErr}
 use Rattle.sqlite.specs.Held.{Held, state}
 use Rattle.sqlite.specs.State.{State, HasCleanDisk}
 use Rattle.sqlite_trees.specs.declared.store.Store as store
@@ -7,7 +7,7 @@ use Rattle.bug_record.specs.Desk.{Desk}
 use Rattle.bug_record.specs.declared.command.Change.{Change}
 use Rattle.bug_record.specs.declared.outcome.Outcome.{Outcome}
 use Rattle.base_faults.specs.declared.store_fault.StoreFault.{StoreFault}
-use Rattle.base_faults.specs.declared.store_fault.StoreFault.TheVariants.{Foreign}
+use Rattle.table_forms.specs.Faults.{IsFaultOf}
 use Rattle.table_content.specs.Content.{Content}
 use Rattle.table_content.specs.View.{desk_in, keeping_in}
 use Rattle.store_contract.specs.Crashes.{Holding}
@@ -47,7 +47,7 @@ module _ {S : Type 0} {g : store.Ghosts S} where
 
   -- what it remembers
   abbrev pub remembered : TableDesk S g → Remembered
-  remembered d = record { sets = known_set d.known; place = d.place }
+  remembered d = record { sets = known_set d.known; place = d.place; next = d.next }
 
   -- its tables are kept
   abbrev pub HasKeptTables : TableDesk S g → Type 0
@@ -63,11 +63,13 @@ module _ {S : Type 0} {g : store.Ghosts S} where
   IsAnswered old new result P =
       Asks HasKeptTables HasHonestDisk LeavesTables old new (Answers (desk_of old) (desk_of new) result P)
 
-  -- over kept tables and an honest disk a call fails for memory, the disk or its size alone
-  abbrev pub NeverForeign : {T : Type 0} → TableDesk S g → TableDesk S g → Result T StoreFault
+  -- Over kept tables and an honest disk a call fails for memory, or its store has failed in this
+  -- call, or was shut before; it never fails as Foreign.
+  abbrev pub HasItsCause : {T : Type 0} → TableDesk S g → TableDesk S g → Result T StoreFault
       → Type 0
-  NeverForeign old new result =
-      HasKeptTables old → HasHonestDisk new → IfErr result (λ fault. fault ≢ Foreign)
+  HasItsCause old new result =
+      HasKeptTables old → HasHonestDisk new
+      → IfErr result (IsFaultOf (state_of old) (state_of new))
 
   -- the outcome may be kept of the message's id, with the change, over this desk
   abbrev pub MayKeep : TableDesk S g → (id sender message : List ℕ) → Outcome → Option Change

@@ -1,10 +1,11 @@
 -- A desk over a connection, whose content is remembered also once a fault has shut the connection.
-use Rattle.std.specs.Prelude.{ℕ, List, ◌≡◌, Option, Some, IfSome}
+use Rattle.std.specs.Prelude.{ℕ, List, ◌≡◌, Option, Some, None, IfSome}
 use Rattle.sqlite.specs.Held.{Held, state}
 use Rattle.sqlite_trees.specs.declared.store.Store as store
 use Rattle.version_nodes.specs.Trees.{Ancestry}
 use Rattle.bug_record.specs.Desk.{Desk}
 use Rattle.bug_record.specs.declared.bug.SetImage.{SetImage}
+use Rattle.bug_record.specs.declared.command.Change.{Change}
 use Rattle.store_keys.specs.Keys.{key_of}
 use Rattle.table_content.specs.Content.{Content}
 use Rattle.table_content.specs.Kept.{IsKeptContent}
@@ -19,15 +20,27 @@ use Rattle.table_opening.specs.Shown.{HasContent}
 abbrev pub AreKnown : (ℕ → Option SetImage) → Content → Type 0
 AreKnown known c = (k : ℕ) (i : SetImage) → known k ≡ Some i → (image c k ≡ Some i) × (key_of i ≡ k)
 
--- What is remembered of a content: the images of sets, and the place that comes next of a message.
+-- the next number that is known is the content's
+abbrev pub IsNextIn : Option ℕ → Content → Type 0
+IsNextIn known c = IfSome known (λ n. n ≡ c.next)
+
+-- the next number that is known after the change of a line, if there is one
+abbrev pub next_after : Option Change → Option ℕ → Option ℕ
+next_after None known = known
+next_after (Some change) known = Some change.next
+
+-- What is remembered of a content: the images of sets, the place that comes next of a message, and
+-- the next number.
 pub record Remembered : Type 0 where
   pub sets : ℕ → Option SetImage
   pub place : Option (List ℕ × ℕ)
+  pub next : Option ℕ
 
 -- it is right of the content
 pub record AreRemembered (known : Remembered) (c : Content) : Type 0 where
   pub sets : AreKnown known.sets c
   pub place : IsPlaceIn known.place c
+  pub next : IsNextIn known.next c
 
 module _ {S : Type 0} (g : store.Ghosts S) where
   -- what a connection shows

@@ -10,10 +10,11 @@ ghost use Rattle.table_writes.specs.Needs.{HasTree, HasTreeIfAny, IsKnownIn, IsN
 ghost use Rattle.desk_tables.specs.Changing.{FitsTables, FitsTablesIfAny, MakesChange, TakesBranch, KeepsLine};
 ghost use Rattle.desk_tables.specs.Changing.{LeavesMessages, ServesAfter, ServesAfterBranch};
 ghost use Rattle.desk_tables.specs.Changing.{SurvivesChange, SurvivesBranch, SurvivesLine};
-ghost use Rattle.desk_tables.specs.Desk.{content_shown, faults_of, HasHonestDisk, HasKeptTables, NeverForeign, MayKeep};
+ghost use Rattle.desk_tables.specs.Desk.{content_shown, faults_of, HasHonestDisk, HasKeptTables, HasItsCause, MayKeep};
 
 use crate::calls::{change_sets, keep_line, take_nodes};
 use crate::desk::TableDesk;
+use crate::remembering::next_after;
 use base_faults::StoreFault;
 use bug_record::{Change, Outcome, SetImage};
 use sqlite::Alter;
@@ -30,7 +31,7 @@ impl<S: Alter> TableDesk<S> {
         requires fits { FitsTables self.old change.now }
         ensures answer { MakesChange self.old self.new result change.now }
         ensures stays { LeavesMessages self.old self.new }
-        ensures sure { NeverForeign self.old self.new result }
+        ensures cause { HasItsCause self.old self.new result }
         ensures serves { ServesAfter self.old self.new result }
         ensures crash { (HasHonestDisk self.new → HasKeptTables self.old) →
             SurvivesChange self.old self.new change.now }
@@ -45,6 +46,7 @@ impl<S: Alter> TableDesk<S> {
         )?;
         self.last = Snapshot::of(&self.conn);
         self.known.follow(self.alloc, change.images.as_slice());
+        self.next = Some(change.next);
         Ok(())
     }
 
@@ -54,7 +56,7 @@ impl<S: Alter> TableDesk<S> {
         requires fits { FitsTables self.old change.now }
         ensures answer { MakesChange self.old self.new result change.now }
         ensures stays { LeavesMessages self.old self.new }
-        ensures sure { NeverForeign self.old self.new result }
+        ensures cause { HasItsCause self.old self.new result }
         ensures serves { ServesAfter self.old self.new result }
         ensures crash { HasKeptTables self.old → SurvivesChange self.old self.new change.now }
         ensures counts { faults_of self.new ≡ faults_of self.old }
@@ -88,8 +90,8 @@ impl<S: Alter> TableDesk<S> {
         ensures answer { MayKeep self.old id.now from.now message.now outcome.now
             (option_copied change.entry) → KeepsLine self.old self.new id.now from.now message.now
             outcome.now (option_copied change.entry) result }
-        ensures sure { MayKeep self.old id.now from.now message.now outcome.now
-            (option_copied change.entry) → NeverForeign self.old self.new result }
+        ensures cause { MayKeep self.old id.now from.now message.now outcome.now
+            (option_copied change.entry) → HasItsCause self.old self.new result }
         ensures serves { MayKeep self.old id.now from.now message.now outcome.now
             (option_copied change.entry) → ServesAfter self.old self.new result }
         ensures crash { MayKeep self.old id.now from.now message.now outcome.now
@@ -113,6 +115,7 @@ impl<S: Alter> TableDesk<S> {
         self.last = Snapshot::of(&self.conn);
         self.known.follow_line(self.alloc, change);
         self.place.follow(self.alloc, id, place);
+        self.next = next_after(change, self.next);
         Ok(())
     }
 
@@ -131,8 +134,8 @@ impl<S: Alter> TableDesk<S> {
         ensures answer { MayKeep self.old id.now from.now message.now outcome.now
             (option_copied change.entry) → KeepsLine self.old self.new id.now from.now message.now
             outcome.now (option_copied change.entry) result }
-        ensures sure { MayKeep self.old id.now from.now message.now outcome.now
-            (option_copied change.entry) → NeverForeign self.old self.new result }
+        ensures cause { MayKeep self.old id.now from.now message.now outcome.now
+            (option_copied change.entry) → HasItsCause self.old self.new result }
         ensures serves { MayKeep self.old id.now from.now message.now outcome.now
             (option_copied change.entry) → ServesAfter self.old self.new result }
         ensures crash { MayKeep self.old id.now from.now message.now outcome.now
@@ -154,7 +157,7 @@ impl<S: Alter> TableDesk<S> {
         ensures answer { TakesBranch self.old self.new result nodes.now }
         ensures stays { LeavesMessages self.old self.new }
         ensures refusal { IfOk result IsRefusal }
-        ensures sure { NeverForeign self.old self.new result }
+        ensures cause { HasItsCause self.old self.new result }
         ensures serves { ServesAfterBranch self.old self.new result }
         ensures crash { (HasHonestDisk self.new → HasKeptTables self.old) →
             SurvivesBranch self.old self.new nodes.now }
@@ -182,7 +185,7 @@ impl<S: Alter> TableDesk<S> {
         ensures answer { TakesBranch self.old self.new result nodes.now }
         ensures stays { LeavesMessages self.old self.new }
         ensures refusal { IfOk result IsRefusal }
-        ensures sure { NeverForeign self.old self.new result }
+        ensures cause { HasItsCause self.old self.new result }
         ensures serves { ServesAfterBranch self.old self.new result }
         ensures crash { HasKeptTables self.old → SurvivesBranch self.old self.new nodes.now }
         ensures counts { faults_of self.new ≡ faults_of self.old }

@@ -29,6 +29,8 @@ pub struct TableDesk<S: Alter> {
     pub(crate) known: KnownSets,
     // The place that comes next of the message that was kept last.
     pub(crate) place: KnownPlace,
+    // The next number, once a call has read it.
+    pub(crate) next: Option<u64>,
     pub(crate) counts: Counts,
     // The connection as the content was last made or found.
     pub(crate) last: Snapshot<Connection<S>>,
@@ -47,6 +49,7 @@ impl<S: Alter + Drop> Drop for TableDesk<S> {
             family: _,
             known: _,
             place: _,
+            next: _,
             counts: _,
             last: _,
         } = self;
@@ -67,6 +70,7 @@ impl<S: Alter> TableDesk<S> {
         ensures family { result.family ≡ None }
         ensures known { (k : ℕ) → known_set result.known k ≡ None }
         ensures place { result.place ≡ None }
+        ensures next { result.next ≡ None }
         ensures counts { result.counts ≡ no_faults }
     {
         TableDesk {
@@ -75,6 +79,7 @@ impl<S: Alter> TableDesk<S> {
             family: None,
             known: KnownSets::new(alloc),
             place: KnownPlace::new(),
+            next: None,
             counts: Counts::new(),
             last,
         }
@@ -91,6 +96,7 @@ impl<S: Alter> TableDesk<S> {
             family: _,
             known: _,
             place: _,
+            next: _,
             counts: _,
             last: _,
         } = self;

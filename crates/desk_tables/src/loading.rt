@@ -8,7 +8,7 @@ ghost use Rattle.table_content.specs.Changes.{all_stay};
 ghost use Rattle.store_contract.specs.Store.{Asks, IsOpenHead};
 ghost use Rattle.table_writes.specs.Needs.{HasTreeIfAny};
 ghost use Rattle.desk_tables.specs.Desk.{state_of, content_shown, desk_of, faults_of};
-ghost use Rattle.desk_tables.specs.Desk.{HasHonestDisk, HasKeptTables, LeavesTables, IsAnswered, NeverForeign};
+ghost use Rattle.desk_tables.specs.Desk.{HasHonestDisk, HasKeptTables, LeavesTables, IsAnswered, HasItsCause};
 
 use crate::asking::Question;
 use crate::calls::ask_within;
@@ -27,10 +27,11 @@ impl<S: Alter> TableDesk<S> {
             Q.fits question.now (content_shown self.old) }
         ensures answer { IsAnswered self.old self.new result
             (Q.right question.now (content_shown self.old)) }
-        ensures sure { NeverForeign self.old self.new result }
+        ensures cause { HasItsCause self.old self.new result }
         ensures last { self.new.last.value ≡ self.old.last.value }
         ensures family { self.new.family ≡ self.old.family }
         ensures known { self.new.known ≡ self.old.known }
+        ensures next { self.new.next ≡ self.old.next }
         ensures survives { Survives (state_of self.old) (state_of self.new) (λ _. ⊥) }
         ensures counts { faults_of self.new ≡ faults_of self.old }
     {
@@ -41,7 +42,7 @@ impl<S: Alter> TableDesk<S> {
     pub(crate) fn load(&mut self) -> Result<(), StoreFault>
         ensures answer { Asks HasKeptTables HasHonestDisk LeavesTables self.old self.new
             (self.new.last.value ≡ self.old.last.value) }
-        ensures sure { NeverForeign self.old self.new result }
+        ensures cause { HasItsCause self.old self.new result }
         ensures some { OnOk result (is_some self.new.family ≡ true) }
         ensures last { self.new.last.value ≡ self.old.last.value }
         ensures survives { Survives (state_of self.old) (state_of self.new) (λ _. ⊥) }
@@ -60,7 +61,7 @@ impl<S: Alter> TableDesk<S> {
     fn find_stay(&mut self, change: &Change) -> Result<bool, StoreFault>
         ensures answer { Asks HasKeptTables HasHonestDisk LeavesTables self.old self.new
             (self.new.last.value ≡ self.old.last.value) }
-        ensures sure { NeverForeign self.old self.new result }
+        ensures cause { HasItsCause self.old self.new result }
         ensures stay { HasKeptTables self.new → HasHonestDisk self.new →
             IfOk result (λ stay. stay ≡ all_stay (content_shown self.new) change.now.images) }
         ensures last { self.new.last.value ≡ self.old.last.value }
@@ -80,7 +81,7 @@ impl<S: Alter> TableDesk<S> {
     pub(crate) fn load_for(&mut self, change: Option<&Change>) -> Result<(), StoreFault>
         ensures answer { Asks HasKeptTables HasHonestDisk LeavesTables self.old self.new
             (self.new.last.value ≡ self.old.last.value) }
-        ensures sure { NeverForeign self.old self.new result }
+        ensures cause { HasItsCause self.old self.new result }
         ensures tree { HasKeptTables self.new → HasHonestDisk self.new →
             OnOk result (HasTreeIfAny self.new.family (content_shown self.new)
             (option_copied change.entry)) }
@@ -110,7 +111,7 @@ impl<S: Alter> TableDesk<S> {
             IsSetOf (desk_of self.old) image.now }
         ensures answer { IsAnswered self.old self.new result
             (IsOpenHead (desk_of self.old) image.now) }
-        ensures sure { NeverForeign self.old self.new result }
+        ensures cause { HasItsCause self.old self.new result }
         ensures last { self.new.last.value ≡ self.old.last.value }
         ensures survives { Survives (state_of self.old) (state_of self.new) (λ _. ⊥) }
         ensures counts { faults_of self.new ≡ faults_of self.old }
@@ -128,7 +129,7 @@ impl<S: Alter> TableDesk<S> {
             IsSetOf (desk_of self.old) image.now }
         ensures answer { IsAnswered self.old self.new result
             (IsOpenHead (desk_of self.old) image.now) }
-        ensures sure { NeverForeign self.old self.new result }
+        ensures cause { HasItsCause self.old self.new result }
         ensures last { self.new.last.value ≡ self.old.last.value }
         ensures survives { Survives (state_of self.old) (state_of self.new) (λ _. ⊥) }
         ensures counts { faults_of self.new ≡ faults_of self.old }

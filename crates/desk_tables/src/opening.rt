@@ -14,7 +14,7 @@ ghost use Rattle.store_contract.specs.Kept.{none_kept};
 ghost use Rattle.store_contract.specs.Store.{no_faults};
 ghost use Rattle.desk_tables.specs.Desk.{connection_of, state_of, content_shown, desk_of};
 ghost use Rattle.desk_tables.specs.Desk.{keeping_of, faults_of, HasHonestDisk, HasKeptTables};
-ghost use Rattle.table_opening.specs.Opening.{unlimited, IsLeft, IsStoreFailure, IsReason, SaysEarlier, SaysDesk};
+ghost use Rattle.table_opening.specs.Opening.{unlimited, IsLeft, IsFailureOf, IsReason, SaysEarlier, SaysDesk};
 ghost use Rattle.table_opening.specs.Shown.{HasContent, HasContentUnder, HoldsContent, AreTablesOf};
 ghost use Rattle.table_opening.specs.declared.open_fault.OpenFault.TheVariants as fault;
 
@@ -32,7 +32,8 @@ impl<S: Alter> TableDesk<S> {
     /// exactly where a table has the name of one of a desk's, `Store(Foreign)` where there are
     /// other tables, indexes or views, and else what the store failed for.
     /// From now on no statement has a limit of steps.
-    /// A crash at any moment of the call leaves what it would have left before, or the new desk.
+    /// A crash at any moment of the call leaves what it would have left before, or the new desk;
+    /// where there are tables it leaves what it would have left before.
     pub fn create(
         alloc: Global,
         conn: Connection<S>,
@@ -52,13 +53,17 @@ impl<S: Alter> TableDesk<S> {
             (state S.Store conn).now.schema ≢ no_tables →
             IsErrAnd result (λ e. e.0 ≡ fault.Store Foreign) }
         ensures blank { (state S.Store conn).now.schema ≡ no_tables →
-            IfErr result (λ e. HasCleanDisk (state S.Store e.1) → IsStoreFailure e.0) }
+            IfErr result (λ e. HasCleanDisk (state S.Store e.1) →
+            IsFailureOf (unlimited (state S.Store conn)) (state S.Store e.1) e.0) }
         ensures left { IfErr result (λ e. IsLeft (state S.Store conn) (state S.Store e.1)) }
         ensures crash { MatchResult result
             (λ d. Survives (unlimited (state S.Store conn)) (state_of d)
             (AreTablesOf (no_content first)))
             (λ e. Survives (unlimited (state S.Store conn)) (state S.Store e.1)
             (AreTablesOf (no_content first))) }
+        ensures spared { (state S.Store conn).now.schema ≢ no_tables →
+            IfErr result (λ e. Survives (unlimited (state S.Store conn)) (state S.Store e.1)
+            (λ _. ⊥)) }
     {
         let mut conn = conn;
         conn.set_step_limit(None);
@@ -101,7 +106,8 @@ impl<S: Alter> TableDesk<S> {
         ensures counts { IfOk result (λ d. faults_of d ≡ no_faults) }
         ensures why { IfErr result (λ e. IsReason (state S.Store conn) (state S.Store e.1) e.0) }
         ensures desk { (c : Content) → HoldsContent c (state S.Store conn) →
-            IfErr result (λ e. HasCleanDisk (state S.Store e.1) → IsStoreFailure e.0) }
+            IfErr result (λ e. HasCleanDisk (state S.Store e.1) →
+            IsFailureOf (unlimited (state S.Store conn)) (state S.Store e.1) e.0) }
         ensures left { MatchResult result
             (λ d. (c : Content) → HasHonestDisk d → HasContent c (state S.Store conn) →
             IsLeft (state S.Store conn) (state_of d))

@@ -15,13 +15,13 @@ ghost use Rattle.store_contract.specs.Store.{IsImageOf, IsNext, IsOpenHead, AreW
 ghost use Rattle.store_contract.proofs.CrashLemmas.{or_other};
 ghost use Rattle.base_words.specs.Ids.{IsId};
 ghost use Rattle.desk_tables.specs.Desk.{state_of, content_shown, desk_of, keeping_of, faults_of, MayKeep, KeepsOf};
-ghost use Rattle.desk_tables.specs.Desk.{HasHonestDisk, HasKeptTables, LeavesTables, IsAnswered, NeverForeign};
+ghost use Rattle.desk_tables.specs.Desk.{HasHonestDisk, HasKeptTables, LeavesTables, IsAnswered, HasItsCause};
 ghost use Rattle.table_opening.specs.Shown.{AreTablesOf};
 ghost use Rattle.desk_tables.specs.Crashes.{AreTablesAfter};
 ghost use Rattle.desk_tables.specs.declared.desk.TableDesk.{TableDesk as SeenDesk};
 
 use crate::desk::TableDesk;
-use crate::questions::{KeptOf, Listed, Next, WaitingOn};
+use crate::questions::{KeptOf, Listed, WaitingOn};
 use base_faults::StoreFault;
 use bug_record::{Change, ListRow, Numbers, Outcome, Sequence, SetImage};
 use sqlite::Alter;
@@ -41,13 +41,14 @@ impl<S: Alter> Records for TableDesk<S> {
 
     ghost faults = { faults_of };
 
-    ghost next_gives = { λ old new answer. ⊤ };
+    ghost next_gives = { λ old new answer. IsAnswered old new answer (IsNext (desk_of old))
+        × (faults_of new ≡ faults_after answer (faults_of old)) };
 
     /// The image of the set that the bug is in; `None` exactly where there is no bug of this
     /// number.
     fn set_of(&mut self, number: u64) -> Result<Option<SetImage>, StoreFault>
         ensures answer { IsAnswered self.old self.new result (IsImageOf (desk_of self.old) number) }
-        ensures sure { NeverForeign self.old self.new result }
+        ensures cause { HasItsCause self.old self.new result }
         ensures stays { keeping_of self.new ≡ keeping_of self.old }
         ensures count { faults_of self.new ≡ faults_after result (faults_of self.old) }
         ensures crash { Survives (state_of self.old) (state_of self.new) (λ _. ⊥) }
@@ -59,12 +60,12 @@ impl<S: Alter> Records for TableDesk<S> {
     /// The number of the next bug: 1,000,000,000 where no number is left.
     fn next(&mut self) -> Result<u64, StoreFault>
         ensures answer { IsAnswered self.old self.new result (IsNext (desk_of self.old)) }
-        ensures sure { NeverForeign self.old self.new result }
+        ensures cause { HasItsCause self.old self.new result }
         ensures stays { keeping_of self.new ≡ keeping_of self.old }
         ensures count { faults_of self.new ≡ faults_after result (faults_of self.old) }
         ensures crash { Survives (state_of self.old) (state_of self.new) (λ _. ⊥) }
     {
-        let answer = self.ask(&Next);
+        let answer = self.find_next();
         self.counts.note(answer)
     }
 
@@ -74,7 +75,7 @@ impl<S: Alter> Records for TableDesk<S> {
     fn waiting_on(&mut self, number: u64) -> Result<Numbers, StoreFault>
         ensures answer { IsAnswered self.old self.new result
             (AreWaitingOn (desk_of self.old) number) }
-        ensures sure { NeverForeign self.old self.new result }
+        ensures cause { HasItsCause self.old self.new result }
         ensures stays { keeping_of self.new ≡ keeping_of self.old }
         ensures count { faults_of self.new ≡ faults_after result (faults_of self.old) }
         ensures crash { Survives (state_of self.old) (state_of self.new) (λ _. ⊥) }
@@ -92,7 +93,7 @@ impl<S: Alter> Records for TableDesk<S> {
     fn listed(&mut self, package: &str, node: &Node) -> Result<Sequence<ListRow>, StoreFault>
         ensures answer { IsAnswered self.old self.new result
             (AreListed (desk_of self.old) «package».now node.now) }
-        ensures sure { NeverForeign self.old self.new result }
+        ensures cause { HasItsCause self.old self.new result }
         ensures stays { keeping_of self.new ≡ keeping_of self.old }
         ensures count { faults_of self.new ≡ faults_after result (faults_of self.old) }
         ensures crash { Survives (state_of self.old) (state_of self.new) (λ _. ⊥) }
@@ -115,7 +116,7 @@ impl<S: Alter> Records for TableDesk<S> {
             IsSetOf (desk_of self.old) image.now }
         ensures answer { IsAnswered self.old self.new result
             (IsOpenHead (desk_of self.old) image.now) }
-        ensures sure { NeverForeign self.old self.new result }
+        ensures cause { HasItsCause self.old self.new result }
         ensures stays { keeping_of self.new ≡ keeping_of self.old }
         ensures count { faults_of self.new ≡ faults_after result (faults_of self.old) }
         ensures crash { Survives (state_of self.old) (state_of self.new) (λ _. ⊥) }
@@ -138,7 +139,7 @@ impl<S: Alter> Records for TableDesk<S> {
             FitsDesk (desk_of self.old) change.now }
         ensures answer { Holds HasKeptTables HasHonestDisk self.old self.new
             (Applies (desk_of self.old) (desk_of self.new) result change.now) }
-        ensures sure { NeverForeign self.old self.new result }
+        ensures cause { HasItsCause self.old self.new result }
         ensures stays { Holds HasKeptTables HasHonestDisk self.old self.new
             (keeping_of self.new ≡ keeping_of self.old) }
         ensures count { faults_of self.new ≡ faults_after result (faults_of self.old) }
@@ -162,7 +163,7 @@ impl<S: Alter> Records for TableDesk<S> {
         ensures answer { Holds HasKeptTables HasHonestDisk self.old self.new
             (Branches (desk_of self.old) (desk_of self.new) result nodes.now) }
         ensures refusal { IfOk result IsRefusal }
-        ensures sure { NeverForeign self.old self.new result }
+        ensures cause { HasItsCause self.old self.new result }
         ensures stays { Holds HasKeptTables HasHonestDisk self.old self.new
             (keeping_of self.new ≡ keeping_of self.old) }
         ensures count { faults_of self.new ≡ faults_after result (faults_of self.old) }
@@ -181,7 +182,7 @@ impl<S: Alter> Records for TableDesk<S> {
     fn kept(&mut self, id: &str) -> Result<Option<Kept>, StoreFault>
         ensures answer { IsAnswered self.old self.new result
             (λ kept. kept ≡ keeping_of self.old id.now) }
-        ensures sure { NeverForeign self.old self.new result }
+        ensures cause { HasItsCause self.old self.new result }
         ensures stays { keeping_of self.new ≡ keeping_of self.old }
         ensures count { faults_of self.new ≡ faults_after result (faults_of self.old) }
         ensures crash { Survives (state_of self.old) (state_of self.new) (λ _. ⊥) }
@@ -221,8 +222,8 @@ impl<S: Alter> Records for TableDesk<S> {
             (KeepsOf self.old self.new id.now from.now message.now outcome.now
             (option_copied change.entry) result) }
         ensures honest { HasHonestDisk self.new → HasHonestDisk self.old }
-        ensures sure { MayKeep self.old id.now from.now message.now outcome.now
-            (option_copied change.entry) → NeverForeign self.old self.new result }
+        ensures cause { MayKeep self.old id.now from.now message.now outcome.now
+            (option_copied change.entry) → HasItsCause self.old self.new result }
         ensures count { faults_of self.new ≡ faults_after result (faults_of self.old) }
         ensures serves { MayKeep self.old id.now from.now message.now outcome.now
             (option_copied change.entry) → HasKeptTables self.old → HasHonestDisk self.new →

@@ -49,6 +49,10 @@ none_left f (x ∷ xs) a b lt e = absurd (omega (arith, lt))
 pub same_front : (a b : List ℕ) → b ≡ a → StartsWith b a
 same_front a b e = starts_with_of_append b a [] (e ∙ sym (append-nil a))
 
+pub unappended : {T E : Type 0} (r : Result T E) (a b : List ℕ) → OnErr r (b ≡ a) → OnErr r (StartsWith b a)
+unappended (Ok done) a b h = tt
+unappended (Err fault) a b h = same_front a b h
+
 -- a text was appended, and of the next one a front
 pub front_within : (a x b c : List ℕ) → b ≡ a ++ x → StartsWith c b → StartsWith c a
 front_within a x b c e f = starts_with_trans c b a f (starts_with_of_append b a x e)

@@ -100,9 +100,13 @@ fault_text fault = as_line (fault_answer fault)
 abbrev pub store_end_text : StoreFault → List ℕ → List ℕ
 store_end_text fault line = as_line (echo line) ++ fault_text fault
 
+-- the line that follows the fifth line that could not be read
+abbrev pub too_many_text : List ℕ
+too_many_text = as_line (codes "Too many unreadable lines.")
+
 -- what follows the last outcome; the line is that at which the store failed
 abbrev pub end_text : End → List ℕ → List ℕ
 end_text ends.All line = []
 end_text ends.Stopped line = []
-end_text ends.TooManyUnreadable line = as_line (codes "Too many unreadable lines.")
+end_text ends.TooManyUnreadable line = too_many_text
 end_text (ends.Store fault k) line = store_end_text fault line

@@ -1,29 +1,18 @@
 //! The answers to the directives of a script.
 
 ghost use Rattle.std.specs.Prelude.{◌≡◌, ◌++◌, IfOk, codes, decimal, string_bytes};
-ghost use Rattle.desk_text.specs.Texts.{as_line, fault_text};
-ghost use Rattle.desk_text.specs.Answers.{refused_line, report_answer, branch_answer, bad_version_answer, bad_package_answer};
+ghost use Rattle.desk_text.specs.Texts.{as_line};
+ghost use Rattle.desk_text.specs.Answers.{bad_version_answer, bad_package_answer};
 ghost use Rattle.desk_text.specs.Answers.{no_bug_answer, bad_directive_answer, report_refusal, nodes_refusal};
 
 use crate::report_fault::ReportFault;
-use crate::texts::{append_between, append_three, fault_text, full_text};
-use base_faults::StoreFault;
+use crate::texts::{append_between, full_text};
 use itoa::Buffer;
 use std::alloc::{AllocError, Global};
 use version_nodes::BranchFault;
 
 // The bytes that a short answer has room for at once.
 const ANSWER: usize = 64;
-
-fn refused_line(alloc: Global, why: &str) -> Result<Vec<u8>, AllocError>
-    ensures { IfOk result (λ line. line.items ≡ refused_line why.now) }
-{
-    let mut line = Vec::with_capacity(alloc, ANSWER)?;
-    match append_three(&mut line, "NO ", why, "\n") {
-        Ok(()) => Ok(line),
-        Err(fault) => Err(fault),
-    }
-}
 
 // A number after a text, as a line.
 fn number_line(alloc: Global, before: &str, number: u64) -> Result<Vec<u8>, AllocError>
@@ -34,19 +23,6 @@ fn number_line(alloc: Global, before: &str, number: u64) -> Result<Vec<u8>, Allo
         Ok(()) => Ok(line),
         Err(fault) => Err(fault),
     }
-}
-
-/// The line that answers a directive at which the store failed.
-///
-/// # Errors
-///
-/// Where there is no memory.
-pub fn fault_answer(alloc: Global, fault: StoreFault) -> Result<Vec<u8>, AllocError>
-    ensures { IfOk result (λ line. line.items ≡ fault_text fault) }
-{
-    let mut line = Vec::new(alloc);
-    fault_text(alloc, &mut line, fault)?;
-    Ok(line)
 }
 
 /// Why a report is refused; nothing of a fault of the store.
@@ -60,24 +36,6 @@ pub fn report_refusal(fault: ReportFault) -> &'static str
         ReportFault::BadTitle => "bad title",
         ReportFault::Full => full_text(),
         ReportFault::Store(_) => "",
-    }
-}
-
-/// The line that answers a report: its number, the refusal, or the fault of the store.
-///
-/// # Errors
-///
-/// Where there is no memory.
-pub fn report_answer(
-    alloc: Global,
-    answer: &Result<u64, ReportFault>,
-) -> Result<Vec<u8>, AllocError>
-    ensures { IfOk result (λ line. line.items ≡ report_answer answer.now) }
-{
-    match answer {
-        Ok(number) => number_line(alloc, "OK ", *number),
-        Err(ReportFault::Store(fault)) => fault_answer(alloc, *fault),
-        Err(refusal) => refused_line(alloc, report_refusal(*refusal)),
     }
 }
 
@@ -105,33 +63,6 @@ pub fn nodes_refusal(alloc: Global, fault: BranchFault) -> Result<String, AllocE
         BranchFault::Repeated(place) => text_at(alloc, "repeated version at ", place),
         BranchFault::Conflict(place) => text_at(alloc, "conflict at ", place),
         BranchFault::Memory => Ok(String::new(alloc)),
-    }
-}
-
-// The line of a refusal of a branch.
-fn refused_branch(alloc: Global, fault: BranchFault) -> Result<Vec<u8>, AllocError>
-    ensures { IfOk result (λ line. line.items ≡ refused_line (nodes_refusal fault)) }
-{
-    let why = nodes_refusal(alloc, fault)?;
-    refused_line(alloc, why.as_str())
-}
-
-/// The line that answers a branch whose words are nodes: `OK`, the refusal, or the fault of the
-/// store.
-///
-/// # Errors
-///
-/// Where there is no memory.
-pub fn branch_answer(
-    alloc: Global,
-    answer: &Result<Result<(), BranchFault>, StoreFault>,
-) -> Result<Vec<u8>, AllocError>
-    ensures { IfOk result (λ line. line.items ≡ branch_answer answer.now) }
-{
-    match answer {
-        Ok(Ok(())) => Vec::from_slice(alloc, b"OK\n"),
-        Ok(Err(refusal)) => refused_branch(alloc, *refusal),
-        Err(fault) => fault_answer(alloc, *fault),
     }
 }
 

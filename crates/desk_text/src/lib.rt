@@ -8,12 +8,12 @@ mod report_fault;
 mod texts;
 
 pub use answers::{
-    bad_directive_answer, bad_package_answer, bad_version_answer, branch_answer, fault_answer,
-    no_bug_answer, nodes_refusal, report_answer, report_refusal,
+    bad_directive_answer, bad_package_answer, bad_version_answer, no_bug_answer, nodes_refusal,
+    report_refusal,
 };
 pub use base_faults::{End, StoreFault};
 pub use bug_record::{ListRow, Outcome};
 pub use lists::list_text;
 pub use pages::{BugPage, bug_text};
 pub use report_fault::ReportFault;
-pub use texts::{end_text, fault_text, outcome_text};
+pub use texts::{end_text, fault_line, fault_text, outcome_text, too_many_line};

@@ -5,7 +5,7 @@ ghost use Rattle.std.specs.Io.{StartsWith};
 ghost use Rattle.version_nodes.specs.Nodes.{node_text};
 ghost use Rattle.desk_text.specs.Texts.{full_text, said_of_bug, still_found_text};
 ghost use Rattle.desk_text.specs.Texts.{as_line, echo, field_word, refusal_text, numbers_text, changed_text, answer_text};
-ghost use Rattle.desk_text.specs.Texts.{fault_text, outcome_text, store_end_text, end_text};
+ghost use Rattle.desk_text.specs.Texts.{fault_text, too_many_text, outcome_text, store_end_text, end_text};
 
 use base_faults::{End, StoreFault};
 use bug_record::{Field, Outcome, Refusal};
@@ -238,12 +238,32 @@ fn append_outcome(out: &mut Vec<u8>, line: &str, outcome: &Outcome) -> Result<()
     append_text(out, "\n")
 }
 
+/// The line of a store fault, which is at hand, so that it is told whatever memory there is.
+#[tactic(auto, unfolding(crate::specs::Texts::fault_answer))]
+pub fn fault_line(fault: StoreFault) -> &'static str
+    ensures { result.now ≡ fault_text fault }
+{
+    match fault {
+        StoreFault::Memory => "Store fault: memory.\n",
+        StoreFault::Device => "Store fault: device.\n",
+        StoreFault::Full => "Store fault: full.\n",
+        StoreFault::Foreign => "Store fault: foreign.\n",
+    }
+}
+
+/// The line that follows the fifth line that could not be read.
+pub fn too_many_line() -> &'static str
+    ensures { result.now ≡ too_many_text }
+{
+    "Too many unreadable lines.\n"
+}
+
 fn append_fault(out: &mut Vec<u8>, fault: StoreFault) -> Result<(), AllocError>
     ensures ok { OnOk result (out.new.items ≡ out.old.items ++ fault_text fault) }
     ensures err { OnErr result (StartsWith out.new.items out.old.items) }
     ensures utf8 { IsUtf8 out.old.items → IsUtf8 out.new.items }
 {
-    append_three(out, "Store fault: ", fault.word(), ".\n")
+    append_text(out, fault_line(fault))
 }
 
 // The line at which the store failed, and the fault's line.
@@ -322,7 +342,7 @@ pub fn end_text(alloc: Global, out: &mut Vec<u8>, end: End, line: &str) -> Resul
     match end {
         End::All => Ok(()),
         End::Stopped => Ok(()),
-        End::TooManyUnreadable => append_text(out, "Too many unreadable lines.\n"),
+        End::TooManyUnreadable => append_text(out, too_many_line()),
         End::Store(fault, _) => store_end_text(out, fault, line),
     }
 }

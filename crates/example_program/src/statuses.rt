@@ -5,7 +5,7 @@ use crate::help::print_help;
 use crate::ports::{FREE, TAKEN, free_port, words_of};
 use crate::streams::{Caller, GivenInput, KeptOutput};
 use base_words::number_word;
-use program_jobs::{Ending, close_desk, open_desk, run_program, run_words};
+use program_jobs::{Ending, close_desk, open_desk, read_args, run_program, run_words};
 use sqlite::Wary;
 use std::alloc::{AllocError, Global};
 use std::io;
@@ -82,7 +82,7 @@ fn run_on(rt: &HostRuntime, words: &[&str], run: &Run, port: Option<&str>) -> io
     };
     let mut output = KeptOutput::new(alloc, run.output_room);
     let mut errors = KeptOutput::new(alloc, run.errors_room);
-    let ending = run_words(rt, alloc, words, &mut reader, &mut output, &mut errors);
+    let (ending, _left) = run_words(rt, alloc, words, &mut reader, &mut output, &mut errors);
     print_output(rt, &output.bytes)?;
     print_ending(rt, ending, &errors.bytes, port)
 }
@@ -107,7 +107,7 @@ fn run_and_call(rt: &HostRuntime, words: &[&str], run: &Run, port: u16) -> io::R
     };
     let mut caller = Caller::new(rt, port, run.input.as_slice());
     let mut errors = KeptOutput::new(alloc, run.errors_room);
-    let ending = run_words(rt, alloc, words, &mut reader, &mut caller, &mut errors);
+    let (ending, _left) = run_words(rt, alloc, words, &mut reader, &mut caller, &mut errors);
     print_ending(rt, ending, &errors.bytes, None)
 }
 
@@ -241,7 +241,8 @@ pub(crate) fn run_process(rt: &HostRuntime) -> io::Result<()> {
     };
     let mut output = KeptOutput::new(alloc, run.output_room);
     let mut errors = KeptOutput::new(alloc, run.errors_room);
-    let ending = run_program(rt, alloc, &mut reader, &mut output, &mut errors);
+    let args = read_args(rt, alloc);
+    let (ending, _left) = run_program(rt, alloc, args, &mut reader, &mut output, &mut errors);
     println!(rt; "== the words of this process")?;
     print_output(rt, &output.bytes)?;
     print_ending(rt, ending, &errors.bytes, None)

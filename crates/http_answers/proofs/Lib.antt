@@ -1,4 +1,5 @@
 pub mod AnswerLemmas
 pub mod AskedLemmas
+pub mod CrashLemmas
 pub mod MessageLemmas
 pub mod NodesLemmas

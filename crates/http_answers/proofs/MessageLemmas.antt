@@ -1,5 +1,5 @@
 -- What a control message is answered, out of what it came to.
-use Rattle.std.proofs.Common.{inl, inr, ℕ, ◌-◌, List, length, Option, sym, ap, ◌∙◌, subst, arith}
+use Rattle.std.proofs.Common.{◌≡◌, inl, inr, ℕ, ◌-◌, List, [], length, Option, refl, sym, ap, ◌∙◌, subst, arith}
 use Rattle.std.proofs.lemmas.List.{take_all}
 use Rattle.bug_record.specs.Desk.{Desk}
 use Rattle.base_faults.specs.declared.store_fault.StoreFault.{StoreFault}
@@ -7,6 +7,7 @@ use Rattle.base_faults.specs.declared.store_fault.End.{End}
 use Rattle.base_faults.specs.declared.store_fault.End.TheVariants as ends
 use Rattle.control_lines.specs.Lines.{lines_of}
 use Rattle.http_routes.specs.Members.{Control}
+use Rattle.message_directives.specs.Transcripts.{received_text}
 use Rattle.store_contract.specs.Message.{Entry, Machine, Comes, IsReceived, at_start, after_lines}
 use Rattle.http_requests.specs.Answer.{json_answer}
 use Rattle.http_requests.specs.Requests.{PostControl}
@@ -51,3 +52,13 @@ message_right c old new outcomes (ends.Store fault k) reply h (inl t) =
 message_right c old new outcomes (ends.Store fault k) reply h (inr f) =
     subst (λ (o : Option StoreFault). IsAnswer (PostControl c) old o (shown reply) new) (sym f.1)
     (inr (f.0, (k - 1, sym (ap (λ (m : Machine). m.desk) h.2.after))))
+
+-- a message that came to its end, whose transcript names no line
+pub told_end : (outcomes : List Entry) (end : End) (lines : List (List ℕ)) (reply : Reply)
+    → ((fault : StoreFault) (k : ℕ) → end ≡ ends.Store fault k → ⊥)
+    → GivesOrFails (json_answer 200 (message_json outcomes end [])) reply → AnswersEnd outcomes end lines reply
+unfolding message_json received_text
+told_end outcomes ends.All lines reply none h = h
+told_end outcomes ends.Stopped lines reply none h = h
+told_end outcomes ends.TooManyUnreadable lines reply none h = h
+told_end outcomes (ends.Store fault k) lines reply none h = absurd (none fault k refl)

@@ -1,5 +1,5 @@
 -- The nodes of words, from a word on.
-use Rattle.std.proofs.Common.{◌≡◌, ℕ, suc, ◌+◌, ◌<◌, ◌≤◌, List, ◌∷◌, ◌++◌, length, drop, get_or, map, Option, Some}
+use Rattle.std.proofs.Common.{◌≡◌, ℕ, suc, ◌+◌, ◌<◌, ◌≤◌, List, ◌∷◌, length, drop, get_or, map, Option, Some}
 use Rattle.std.proofs.Common.{string_bytes, String, Global, Ok, Err, refl, sym, ap, ◌∙◌, add-one, append-nil}
 use Rattle.std.proofs.Common.{drop-cons, drop_of_length-le}
 use Rattle.version_nodes.specs.Nodes.{Node, node_of_text}

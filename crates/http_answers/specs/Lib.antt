@@ -3,3 +3,4 @@ pub mod Faults
 pub mod Stored
 pub mod Repeats
 pub mod Cases
+pub mod Crashes

@@ -6,8 +6,9 @@ ghost use Rattle.message_directives.specs.Branches.{nodes_of};
 ghost use Rattle.message_directives.specs.BranchWords.{AreRead};
 ghost use Rattle.http_routes.specs.Answers.{ok_json};
 ghost use Rattle.http_requests.specs.Answer.{json_answer};
-ghost use Rattle.http_requests.specs.Requests.{PostBranch};
+ghost use Rattle.http_requests.specs.Requests.{Always, PostBranch};
 ghost use Rattle.http_requests.specs.Told.{IsTold};
+ghost use Rattle.http_answers.specs.Crashes.{LeavesAnswered};
 ghost use Rattle.http_answers.specs.Faults.{IsAnswer, counted_with};
 ghost use Rattle.http_requests.specs.Shown.{shown};
 ghost use Rattle.http_requests.specs.Steps.{Gives};
@@ -53,6 +54,9 @@ fn answer_nodes<S: Records>(alloc: Global, store: &mut S, words: &[String], node
     ensures answer { Holds S.is_kept S.is_honest store.old store.new (IsAnswer (PostBranch (map string_bytes words.now))
         (S.desk store.old) result.fault (shown result) (S.desk store.new)) }
     ensures stays { Holds S.is_kept S.is_honest store.old store.new (S.keeping store.new ≡ S.keeping store.old) }
+    ensures crash { Holds S.is_kept S.is_honest store.old store.new (LeavesAnswered S.leaves store.old store.new
+        (Always (PostBranch (map string_bytes words.now))) (S.desk store.old, S.keeping store.old) result.fault
+        (S.desk store.new, S.keeping store.new)) }
     ensures count { S.faults store.new ≡ counted_with result.fault (S.faults store.old) }
     ensures told { IsTold result.fault (shown result) }
 {
@@ -68,6 +72,9 @@ pub fn answer_branch<S: Records>(alloc: Global, store: &mut S, words: &[String])
     ensures answer { Holds S.is_kept S.is_honest store.old store.new (IsAnswer (PostBranch (map string_bytes words.now))
         (S.desk store.old) result.fault (shown result) (S.desk store.new)) }
     ensures stays { Holds S.is_kept S.is_honest store.old store.new (S.keeping store.new ≡ S.keeping store.old) }
+    ensures crash { Holds S.is_kept S.is_honest store.old store.new (LeavesAnswered S.leaves store.old store.new
+        (Always (PostBranch (map string_bytes words.now))) (S.desk store.old, S.keeping store.old) result.fault
+        (S.desk store.new, S.keeping store.new)) }
     ensures count { S.faults store.new ≡ counted_with result.fault (S.faults store.old) }
     ensures told { IsTold result.fault (shown result) }
 {

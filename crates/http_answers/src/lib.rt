@@ -10,5 +10,5 @@ mod reports;
 
 pub use branches::answer_branch;
 pub use lists_and_pages::{answer_list, answer_page};
-pub use messages::{id_in_use, tell, tell_lines};
+pub use messages::{id_in_use, tell_lines};
 pub use reports::answer_report;

@@ -2,8 +2,9 @@
 
 ghost use Rattle.std.specs.Prelude.{◌≡◌, Ok, Err, string_bytes};
 ghost use Rattle.store_contract.specs.Store.{Holds};
-ghost use Rattle.http_requests.specs.Requests.{GetBug, GetList};
+ghost use Rattle.http_requests.specs.Requests.{Always, GetBug, GetList};
 ghost use Rattle.http_requests.specs.Told.{IsTold};
+ghost use Rattle.http_answers.specs.Crashes.{LeavesAnswered};
 ghost use Rattle.http_answers.specs.Faults.{IsAnswer, counted_with};
 ghost use Rattle.http_requests.specs.Shown.{shown};
 ghost use Rattle.http_answers.specs.Cases.{AnswersQuestion};
@@ -37,6 +38,9 @@ pub fn answer_page<S: Records>(alloc: Global, store: &mut S, number: u64) -> Rep
     ensures answer { Holds S.is_kept S.is_honest store.old store.new (IsAnswer (GetBug number)
         (S.desk store.old) result.fault (shown result) (S.desk store.new)) }
     ensures stays { Holds S.is_kept S.is_honest store.old store.new (S.keeping store.new ≡ S.keeping store.old) }
+    ensures crash { Holds S.is_kept S.is_honest store.old store.new (LeavesAnswered S.leaves store.old store.new
+        (Always (GetBug number)) (S.desk store.old, S.keeping store.old) result.fault
+        (S.desk store.new, S.keeping store.new)) }
     ensures count { S.faults store.new ≡ counted_with result.fault (S.faults store.old) }
     ensures told { IsTold result.fault (shown result) }
 {
@@ -49,6 +53,9 @@ pub fn answer_list<S: Records>(alloc: Global, store: &mut S, list: &ListRequest)
         (IsAnswer (GetList (string_bytes list.now.«package») (string_bytes list.now.version))
         (S.desk store.old) result.fault (shown result) (S.desk store.new)) }
     ensures stays { Holds S.is_kept S.is_honest store.old store.new (S.keeping store.new ≡ S.keeping store.old) }
+    ensures crash { Holds S.is_kept S.is_honest store.old store.new (LeavesAnswered S.leaves store.old store.new
+        (Always (GetList (string_bytes list.now.«package») (string_bytes list.now.version))) (S.desk store.old, S.keeping store.old) result.fault
+        (S.desk store.new, S.keeping store.new)) }
     ensures count { S.faults store.new ≡ counted_with result.fault (S.faults store.old) }
     ensures told { IsTold result.fault (shown result) }
 {

@@ -1,8 +1,7 @@
 //! What is told of a control message that was received.
 
-ghost use Rattle.std.specs.Prelude.{◌≡◌, ℕ, List, IfOk, string_bytes};
+ghost use Rattle.std.specs.Prelude.{◌≡◌, [], IfOk, string_bytes};
 ghost use Rattle.control_lines.specs.Lines.{lines_of};
-ghost use Rattle.store_contract.specs.Message.{Entry};
 ghost use Rattle.http_requests.specs.Answer.{json_answer};
 ghost use Rattle.http_answers.specs.Answers.{end_word, message_json};
 ghost use Rattle.http_answers.specs.Repeats.{id_in_use};
@@ -46,26 +45,31 @@ fn message_json(alloc: Global, received: &Received, lines: &[Text]) -> Result<St
     control_json(alloc, end_word(received.end), transcript)
 }
 
-// The answer to a message that came to its end.
-fn tell_end(alloc: Global, received: &Received, lines: &[Text]) -> Reply
-    ensures is { GivesOrFails (json_answer 200 (message_json received.now.outcomes received.now.end lines.now)) result }
+// The answer to a message that came to its end, of which the transcript names no line.
+fn tell_end(alloc: Global, received: &Received) -> Reply
+    ensures is { GivesOrFails (json_answer 200 (message_json received.now.outcomes received.now.end [])) result }
     ensures told { IsTold result.fault (shown result) }
 {
-    match message_json(alloc, received, lines) {
+    match message_json(alloc, received, &[]) {
         Ok(text) => json_reply(StatusCode::OK, text),
         Err(_) => store_fault(StoreFault::Memory),
     }
 }
 
-// The answer to a message at which the store failed.
-fn tell_fault(alloc: Global, received: &Received, lines: &[Text], fault: StoreFault) -> Reply
-    ensures is { TellsFault (json_answer 500 (message_json received.now.outcomes received.now.end lines.now)) fault result }
+// The answer to a message at which the store failed, whose lines are cut once more: the transcript
+// names one.
+fn tell_fault(alloc: Global, received: &Received, message: &str, fault: StoreFault) -> Reply
+    ensures is { TellsFault (json_answer 500 (message_json received.now.outcomes received.now.end (lines_of message.now)))
+        fault result }
     ensures told { IsTold result.fault (shown result) }
 {
     if fault == StoreFault::Memory {
         return store_fault(fault);
     }
-    match message_json(alloc, received, lines) {
+    let Ok(lines) = split_lines(alloc, message) else {
+        return store_fault(fault);
+    };
+    match message_json(alloc, received, lines.as_slice()) {
         Ok(text) => Reply {
             status: StatusCode::INTERNAL_SERVER_ERROR,
             allow: None,
@@ -77,13 +81,13 @@ fn tell_fault(alloc: Global, received: &Received, lines: &[Text], fault: StoreFa
 }
 
 /// The answer to a message that was received.
-pub fn tell(alloc: Global, received: &Received, lines: &[Text]) -> Reply
-    ensures is { AnswersEnd received.now.outcomes received.now.end lines.now result }
+pub fn tell_lines(alloc: Global, received: &Received, message: &str) -> Reply
+    ensures is { AnswersEnd received.now.outcomes received.now.end (lines_of message.now) result }
     ensures told { IsTold result.fault (shown result) }
 {
     match received.end {
-        End::Store(fault, _) => tell_fault(alloc, received, lines, fault),
-        _ => tell_end(alloc, received, lines),
+        End::Store(fault, _) => tell_fault(alloc, received, message, fault),
+        _ => tell_end(alloc, received),
     }
 }
 
@@ -97,27 +101,5 @@ pub fn id_in_use() -> Reply
         allow: None,
         body: Body::Fixed("{\"error\":\"id in use\"}"),
         fault: None,
-    }
-}
-
-// The answer to a message that ended so, for whose transcript there is no memory.
-fn tell_end_alone(end: End) -> Reply
-    ensures is { (outcomes : List Entry) (lines : List (List ℕ)) → AnswersEnd outcomes end lines result }
-    ensures told { IsTold result.fault (shown result) }
-{
-    match end {
-        End::Store(fault, _) => store_fault(fault),
-        _ => store_fault(StoreFault::Memory),
-    }
-}
-
-/// The answer to a message that was received, whose lines are cut once more for its transcript.
-pub fn tell_lines(alloc: Global, received: &Received, message: &str) -> Reply
-    ensures is { AnswersEnd received.now.outcomes received.now.end (lines_of message.now) result }
-    ensures told { IsTold result.fault (shown result) }
-{
-    match split_lines(alloc, message) {
-        Ok(lines) => tell(alloc, received, lines.as_slice()),
-        Err(_) => tell_end_alone(received.end),
     }
 }

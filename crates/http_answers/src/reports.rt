@@ -3,8 +3,9 @@
 ghost use Rattle.std.specs.Prelude.{◌≡◌, None, Some, Ok, Err, IfOk, string_bytes, option_map};
 ghost use Rattle.base_words.specs.Texts.{IsText};
 ghost use Rattle.store_contract.specs.Store.{Holds};
-ghost use Rattle.http_requests.specs.Requests.{PostBug};
+ghost use Rattle.http_requests.specs.Requests.{Always, PostBug};
 ghost use Rattle.http_requests.specs.Told.{IsTold};
+ghost use Rattle.http_answers.specs.Crashes.{LeavesAnswered};
 ghost use Rattle.http_answers.specs.Faults.{IsAnswer, counted_with};
 ghost use Rattle.http_requests.specs.Shown.{shown, report_asked};
 ghost use Rattle.http_answers.specs.Cases.{RefusesReport};
@@ -47,6 +48,9 @@ pub fn answer_report<S: Records>(alloc: Global, store: &mut S, request: &ReportR
     ensures answer { Holds S.is_kept S.is_honest store.old store.new (IsAnswer (PostBug (report_asked request.now))
         (S.desk store.old) result.fault (shown result) (S.desk store.new)) }
     ensures stays { Holds S.is_kept S.is_honest store.old store.new (S.keeping store.new ≡ S.keeping store.old) }
+    ensures crash { Holds S.is_kept S.is_honest store.old store.new (LeavesAnswered S.leaves store.old store.new
+        (Always (PostBug (report_asked request.now))) (S.desk store.old, S.keeping store.old) result.fault
+        (S.desk store.new, S.keeping store.new)) }
     ensures count { S.faults store.new ≡ counted_with result.fault (S.faults store.old) }
     ensures told { IsTold result.fault (shown result) }
 {

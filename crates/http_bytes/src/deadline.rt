@@ -16,7 +16,15 @@ impl Deadline {
     /// The point so many seconds after now; an error where the clock can't be read or tells no such
     /// point.
     pub fn after<C: Clock>(clock: &C, seconds: u64) -> io::Result<Deadline> {
-        match Instant::now(clock)?.checked_add(Duration::from_secs(seconds)) {
+        let now = Deadline {
+            end: Instant::now(clock)?,
+        };
+        now.later(seconds)
+    }
+
+    /// The point so many seconds later; an error where there is no such point.
+    pub fn later(self, seconds: u64) -> io::Result<Deadline> {
+        match self.end.checked_add(Duration::from_secs(seconds)) {
             Some(end) => Ok(Deadline { end }),
             None => Err(io::Error::from(ErrorKind::TimedOut)),
         }

@@ -16,4 +16,4 @@ pub use deadline::Deadline;
 pub use head::{Head, MAX_HEAD, MAX_HEADERS, read_head};
 pub use laws::an_input_begins_with_one_head;
 pub use refusal::{BodyFault, BodyRefusal};
-pub use timed::{Limits, Timed};
+pub use timed::{Limits, TimedReader, TimedWriter};

@@ -1,3 +1,4 @@
 pub mod WrittenLemmas
 pub mod RequestLemmas
 pub mod TakenLemmas
+mod MemoryLemmas

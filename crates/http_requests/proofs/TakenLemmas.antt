@@ -1,49 +1,21 @@
 -- What serving one connection takes from its reader.
-use Rattle.std.proofs.Common.{◌≡◌, ℕ, ◌+◌, ◌≤◌, List, [], ◌++◌, length, take, drop, Option, Some, None, Result, Ok, Err, Bool, true, false, not, refl, sym, ap, ◌∙◌, subst, inl, inr, arith, length-append}
-use Rattle.std.specs.Prelude.{◌⊎◌, nat_le, if◌then◌else◌}
+use Rattle.std.proofs.Common.{◌≡◌, ℕ, ◌+◌, ◌≤◌, List, [], ◌++◌, length, take, drop, Option, Some, None, Result, Ok, Err, Bool, true, false, refl, sym, ap, ◌∙◌, subst, inl, inr, arith, length-append}
+use Rattle.std.specs.Prelude.{◌⊎◌, nat_le}
 use Rattle.std.proofs.lemmas.List.{nil_from_length}
 use Rattle.std.proofs.lemmas.Bool.Decides.{nat_tests}
-use Rattle.std.specs.Str.{bytes_eq}
-use Rattle.std.proofs.KnownBytes.{Consumes-nil, Consumes-kept, Keeps-refl}
+use Rattle.std.proofs.KnownBytes.{Consumes-kept, Keeps-refl}
 use Rattle.std.specs.Io.KnownBytes.{Consumes, Keeps}
 use Rattle.httparse.specs.Grammar.{RequestHead}
 use Rattle.httparse.specs.Spans.{IsRequestAt}
 use Rattle.httparse.specs.declared.spans.HeaderSpan.{HeaderSpan}
 use Rattle.httparse.specs.declared.spans.RequestSpans.{RequestSpans}
-use Rattle.http_routes.specs.Routes.{method}
-use Rattle.http_routes.specs.Parts.{path_of}
-use Rattle.http_routes.specs.declared.router.Route.{Route}
 use Rattle.http_bytes.specs.Head.{BeginsWithHead, HasNoHead}
 use Rattle.http_bytes.specs.Body.{TakesBody}
 use Rattle.http_bytes.specs.Found.{GaveHead, TakesHead, IsComplete}
 use Rattle.http_bytes.specs.declared.head.Head.{Head}
 use Rattle.http_bytes.specs.declared.head.Head.TheVariants.{Nothing, Wrong, Complete}
 use Rattle.http_bytes.proofs.HeadLemmas.{one_head, begins-more}
-use Rattle.http_requests.specs.Asking.{route_of}
-use Rattle.http_requests.specs.Taken.{size_at, size_on, size_by, size_of, TakesBehind, TakesRequest, TakesHeadAlone}
-
--- nothing was taken for a body
-pub takes_nothing : (size : Option ℕ) (here : List ℕ) (known : Option (List ℕ)) → TakesBody size here known known
-takes_nothing None here known = Keeps-refl known
-takes_nothing (Some n) here known = ([], Consumes-nil known, omega (arith))
-
-is_true : (b : Bool) → false ≡ not b → b ≡ true
-is_true true e = refl
-is_true false e = cc
-
--- the route that was found has this method
-pub size_found : (method_asked target path : List ℕ) (headers : List (List ℕ × List ℕ)) (route : Option Route) (known : Route)
-    → path ≡ path_of target → route ≡ route_of path → route ≡ Some known → (name : List ℕ) → name ≡ method known
-    → false ≡ not (bytes_eq method_asked name) → size_at known headers ≡ size_by method_asked target headers
-size_found method_asked target path headers route known e f some name is eq =
-    let same : bytes_eq method_asked (method known) ≡ true =
-    subst (λ (n : List ℕ). bytes_eq method_asked n ≡ true) is (is_true (bytes_eq method_asked name) eq) in
-    ap (λ (b : Bool). if b then size_at known headers else None) (sym same)
-    ∙ ap (λ (r : Option Route). size_on r method_asked headers) (sym some ∙ f ∙ ap route_of e)
-
-pub takes_found : (size other : Option ℕ) (here : List ℕ) (old new : Option (List ℕ)) → size ≡ other → TakesBody size here old new
-    → TakesBody other here old new
-takes_found size other here old new is takes = subst (λ (s : Option ℕ). TakesBody s here old new) is takes
+use Rattle.http_requests.specs.Taken.{size_of, TakesBehind, TakesRequest, TakesHeadAlone}
 
 -- nothing was taken after the bytes for a head
 pub takes_alone : (old new : Option (List ℕ)) (gave : TakesHeadAlone old new) → TakesRequest old new

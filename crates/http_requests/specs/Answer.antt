@@ -24,11 +24,14 @@ length_lines n = codes "Connection: close\r\nContent-Length: " ++ decimal n ++ c
 abbrev pub media_line : List ℕ → List ℕ
 media_line media = codes "Content-Type: " ++ media ++ codes "\r\n"
 
--- the status line, the headers, an empty line, and the body
+-- the status line, the headers and an empty line, of a body of this length
+abbrev pub head_bytes : Answer → ℕ → List ℕ
+head_bytes a size =
+    status_line a.status ++ allow_line a.allow ++ length_lines size ++ media_line a.media ++ codes "\r\n"
+
+-- the head, and the body
 abbrev pub answer_bytes : Answer → List ℕ
-answer_bytes a =
-    status_line a.status ++ allow_line a.allow ++ length_lines (length a.body)
-    ++ media_line a.media ++ codes "\r\n" ++ a.body
+answer_bytes a = head_bytes a (length a.body) ++ a.body
 
 abbrev pub json : List ℕ
 json = codes "application/json"

@@ -13,8 +13,10 @@ use Rattle.base_words.specs.Texts.{is_text}
 use Rattle.base_words.specs.Numbers.{number_of_word}
 use Rattle.http_routes.specs.Body.{json_of}
 use Rattle.http_routes.specs.Members.{Control as ControlMembers, report_members, control_members, id_member, branch_member}
-use Rattle.http_routes.specs.Routes.{method, route_at}
-use Rattle.http_routes.specs.Parts.{path_of, bug_part, package_part, version_part, decoded_text}
+use Rattle.http_routes.specs.Routes.{Found, FoundBugs, FoundControl, FoundBranches}
+use Rattle.http_routes.specs.Routes.{FoundBug, FoundList}
+use Rattle.http_routes.specs.Routes.{route, method, route_at}
+use Rattle.http_routes.specs.Parts.{path_of, decoded_text}
 use Rattle.http_routes.specs.declared.router.Route.{Route}
 use Rattle.http_routes.specs.declared.router.Route.TheVariants.{Bugs, Control, Branches, Bug}
 use Rattle.http_routes.specs.declared.router.Route.TheVariants.{List as ListRoute}
@@ -111,29 +113,29 @@ unfoldable pub list_by : List ℕ → List ℕ → Result Asked Answer
 list_by name version = list_asked (decoded_text name) (decoded_text version)
 
 -- what is asked at a route by its own method; only a POST has a body
-abbrev pub asked_at : Route → List ℕ → List (List ℕ × List ℕ) → List ℕ → Result Asked Answer
-asked_at Bug path headers rest = page_by (bug_part path)
-asked_at ListRoute path headers rest = list_by (package_part path) (version_part path)
-asked_at Bugs path headers rest = asked_with Bugs (body_of headers rest)
-asked_at Control path headers rest = asked_with Control (body_of headers rest)
-asked_at Branches path headers rest = asked_with Branches (body_of headers rest)
+abbrev pub asked_at : Found → List (List ℕ × List ℕ) → List ℕ → Result Asked Answer
+asked_at (FoundBug number) headers rest = page_by number
+asked_at (FoundList name version) headers rest = list_by name version
+asked_at FoundBugs headers rest = asked_with Bugs (body_of headers rest)
+asked_at FoundControl headers rest = asked_with Control (body_of headers rest)
+asked_at FoundBranches headers rest = asked_with Branches (body_of headers rest)
 
 -- what is asked of the route, if there is one, by this method
-abbrev pub asked_on : Option Route → List ℕ → List ℕ → List (List ℕ × List ℕ) → List ℕ
-    → Result Asked Answer
-asked_on None method_asked path headers rest = Err not_found
-asked_on (Some route) method_asked path headers rest =
-    if bytes_eq method_asked (method route) then asked_at route path headers rest
-    else Err (not_allowed route)
+abbrev pub asked_on : Option Found → List ℕ → List (List ℕ × List ℕ) → List ℕ → Result Asked Answer
+asked_on None method_asked headers rest = Err not_found
+asked_on (Some found) method_asked headers rest =
+    if bytes_eq method_asked (method (route found)) then asked_at found headers rest
+    else Err (not_allowed (route found))
 
--- the route of a path; one that is no UTF-8 has none, and `httparse` has refused it before
-unfoldable pub route_of : List ℕ → Option Route
+-- the route of a path, with its parts; one that is no UTF-8 has none, and `httparse` has refused it
+-- before
+unfoldable pub route_of : List ℕ → Option Found
 route_of path = if is_utf8 path then route_at path else None
 
 -- what is asked of a target by this method, with these headers and the bytes after the head
 abbrev pub asked_by : List ℕ → List ℕ → List (List ℕ × List ℕ) → List ℕ → Result Asked Answer
 asked_by method_asked target headers rest =
-    asked_on (route_of (path_of target)) method_asked (path_of target) headers rest
+    asked_on (route_of (path_of target)) method_asked headers rest
 
 -- what a head asks, with the bytes after it; or the answer that refuses it
 abbrev pub asked_of : RequestHead → List ℕ → Result Asked Answer

@@ -3,6 +3,7 @@ pub mod Answer
 pub mod Told
 pub mod Asking
 pub mod Taken
+pub mod Memory
 pub mod Shown
 pub mod Refused
 pub mod Steps

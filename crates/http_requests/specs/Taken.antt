@@ -5,7 +5,7 @@ use Rattle.std.specs.Io.KnownBytes.{Keeps}
 use Rattle.std.specs.Str.{bytes_eq}
 use Rattle.httparse.specs.Grammar.{RequestHead}
 use Rattle.httparse.specs.Spans.{name_and_value}
-use Rattle.http_routes.specs.Routes.{method}
+use Rattle.http_routes.specs.Routes.{Found, route, method}
 use Rattle.http_routes.specs.Parts.{path_of}
 use Rattle.http_routes.specs.declared.router.Route.{Route}
 use Rattle.http_routes.specs.declared.router.Route.TheVariants.{Bugs, Control, Branches, Bug}
@@ -26,10 +26,10 @@ size_at Control headers = size_told (body_length headers)
 size_at Branches headers = size_told (body_length headers)
 
 -- none is read where there is no route, or the route has another method
-abbrev pub size_on : Option Route → List ℕ → List (List ℕ × List ℕ) → Option ℕ
+abbrev pub size_on : Option Found → List ℕ → List (List ℕ × List ℕ) → Option ℕ
 size_on None method_asked headers = None
-size_on (Some route) method_asked headers =
-    if bytes_eq method_asked (method route) then size_at route headers else None
+size_on (Some found) method_asked headers =
+    if bytes_eq method_asked (method (route found)) then size_at (route found) headers else None
 
 -- the size of the body that is read where a target is asked by this method
 abbrev pub size_by : List ℕ → List ℕ → List (List ℕ × List ℕ) → Option ℕ

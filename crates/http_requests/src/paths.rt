@@ -1,6 +1,7 @@
 //! What the path of a request asks.
 
 ghost use Rattle.std.specs.Prelude.{◌≡◌, IfOk, option_map, string_bytes};
+ghost use Rattle.http_routes.specs.Shown.{found_shown};
 ghost use Rattle.http_requests.specs.Requests.{IsGoodAsked};
 ghost use Rattle.http_requests.specs.Shown.{asked};
 ghost use Rattle.http_requests.specs.Asking.{page_by, list_by, route_of};
@@ -10,8 +11,8 @@ use crate::fault::AskFault;
 use crate::refusal::RequestRefusal;
 use crate::request::{ListRequest, Request};
 use base_words::number_word;
-use http_routes::{ListParts, Route, decoded_text, find_route};
-use std::alloc::{AllocError, Global};
+use http_routes::{Found, ListParts, RouteTable, decoded_text};
+use std::alloc::Global;
 use std::str;
 
 /// The page that a part of a path asks for.
@@ -20,11 +21,11 @@ use std::str;
 ///
 /// `Refused` where the part is no number word; `Memory` where there is none for its text.
 #[tactic(auto, unfolding(crate::specs::Asking::page_by))]
-pub(crate) fn ask_page(alloc: Global, part: &[u8]) -> Result<Request, AskFault>
+pub(crate) fn ask_page(alloc: Global, part: &str) -> Result<Request, AskFault>
     ensures asks { IfAsked result (λ asked. asked ≡ page_by part.now) }
     ensures sender { IfOk result (λ request. IsGoodAsked (asked request)) }
 {
-    let Some(word) = decoded_text(alloc, part)? else {
+    let Some(word) = decoded_text(alloc, part.as_bytes())? else {
         return Err(AskFault::Refused(RequestRefusal::NotFound));
     };
     match number_word(word.as_str()) {
@@ -43,26 +44,22 @@ pub(crate) fn ask_list(alloc: Global, parts: ListParts<'_>) -> Result<Request, A
     ensures asks { IfAsked result (λ asked. asked ≡ list_by parts.entry.«package».now parts.entry.version.now) }
     ensures sender { IfOk result (λ request. IsGoodAsked (asked request)) }
 {
-    let Some(package) = decoded_text(alloc, parts.package)? else {
+    let Some(package) = decoded_text(alloc, parts.package.as_bytes())? else {
         return Err(AskFault::Refused(RequestRefusal::NotFound));
     };
-    let Some(version) = decoded_text(alloc, parts.version)? else {
+    let Some(version) = decoded_text(alloc, parts.version.as_bytes())? else {
         return Err(AskFault::Refused(RequestRefusal::NotFound));
     };
     Ok(Request::ListOf(ListRequest { package, version }))
 }
 
-/// The route of a path, which has none where it is no UTF-8.
-///
-/// # Errors
-///
-/// Where there is no memory for the routes.
+/// The route of a path, with its parts; it has none where it is no UTF-8.
 #[tactic(auto, unfolding(crate::specs::Asking::route_of))]
-pub(crate) fn route_of(alloc: Global, path: &[u8]) -> Result<Option<Route>, AllocError>
-    ensures { IfOk result (λ route. route ≡ route_of path.now) }
+pub(crate) fn route_of<'p>(routes: &RouteTable, path: &'p [u8]) -> Option<Found<'p>>
+    ensures { option_map found_shown result ≡ route_of path.now }
 {
     match str::from_utf8(path) {
-        Ok(path) => find_route(alloc, path),
-        Err(_) => Ok(None),
+        Ok(path) => routes.find(path),
+        Err(_) => None,
     }
 }

@@ -1,16 +1,20 @@
 //! The bytes of an answer, written out.
 
-ghost use Rattle.std.specs.Prelude.{◌≡◌, ◌++◌, OnOk, option_map, unwrap_or, codes};
+ghost use Rattle.std.specs.Prelude.{◌≡◌, ◌++◌, ℕ, take, OnOk, OnErr, option_map, unwrap_or, codes};
 ghost use Rattle.std.specs.Io.KnownBytes.{Appends};
 ghost use Rattle.http.specs.StatusCode.{reason_phrase};
-ghost use Rattle.http_requests.specs.Answer.{status_line, allow_line, length_lines, media_line, answer_bytes};
+ghost use Rattle.http_requests.specs.Answer.{status_line, allow_line, length_lines, head_bytes, answer_bytes};
 ghost use Rattle.http_requests.specs.Shown.{shown};
 
 use crate::reply::Reply;
+use arrayvec::ArrayVec;
 use base_output::{WriteFault, write_whole};
 use http::StatusCode;
 use itoa::Buffer;
 use std::io::Write;
+
+/// The most bytes that the first write of an answer has.
+const FRONT: usize = 8_192;
 
 /// Writes three texts, one after another.
 ///
@@ -74,27 +78,44 @@ fn write_length<W: Write>(writer: &mut W, length: usize) -> Result<(), WriteFaul
     )
 }
 
-/// Writes an answer: the status line, `Allow` where it has a method, `Connection: close`,
-/// `Content-Length` in bytes, `Content-Type`, an empty line, and the body (RFC 9112, sections 4
-/// and 5).
-/// It takes no memory.
-///
-/// # Errors
-///
-/// A write failed, an interrupted one too, or took no byte.
-pub fn write_reply<W: Write>(writer: &mut W, reply: &Reply) -> Result<(), WriteFault>
-    ensures all { OnOk result (Appends (W.contents writer.old) (W.contents writer.new) (answer_bytes (shown reply.now))) }
+// Writes what stands before the body: the status line, the headers and an empty line.
+fn write_head<W: Write>(writer: &mut W, reply: &Reply, length: usize) -> Result<(), WriteFault>
+    ensures all { OnOk result (Appends (W.contents writer.old) (W.contents writer.new)
+        (head_bytes (shown reply.now) length)) }
 {
-    let body = reply.body.bytes();
     write_status(writer, reply.status)?;
     write_allow(writer, reply.allow)?;
-    write_length(writer, body.len())?;
+    write_length(writer, length)?;
     write_three(
         writer,
         b"Content-Type: ",
         reply.body.media().as_bytes(),
         b"\r\n",
     )?;
-    write_whole(writer, b"\r\n")?;
-    write_whole(writer, body)
+    write_whole(writer, b"\r\n")
+}
+
+/// Writes an answer: the status line, `Allow` where it has a method, `Connection: close`,
+/// `Content-Length` in bytes, `Content-Type`, an empty line, and the body (RFC 9112, sections 4
+/// and 5).
+/// Its first 8,192 bytes are handed over in one write, and what is left in another.
+/// It takes no memory.
+///
+/// # Errors
+///
+/// A write failed, an interrupted one too, or took no byte; so it is where the head has more than
+/// 8,192 bytes, which no answer of the desk has.
+/// A beginning of the answer is then written.
+pub fn write_reply<W: Write>(writer: &mut W, reply: &Reply) -> Result<(), WriteFault>
+    ensures all { OnOk result (Appends (W.contents writer.old) (W.contents writer.new) (answer_bytes (shown reply.now))) }
+    ensures unfinished { OnErr result
+        ((n : ℕ) × Appends (W.contents writer.old) (W.contents writer.new) (take n (answer_bytes (shown reply.now)))) }
+{
+    let body = reply.body.bytes();
+    let mut front = ArrayVec::<u8, FRONT>::new();
+    write_head(&mut front, reply, body.len())?;
+    let (first, rest) = body.split_at(body.len().min(FRONT - front.len()));
+    write_whole(&mut front, first)?;
+    write_whole(writer, front.as_slice())?;
+    write_whole(writer, rest)
 }

@@ -1,6 +1,11 @@
 pub mod DecodingLemmas
 pub mod FreeLemmas
 pub mod PartLemmas
+pub mod TableLemmas
+pub mod SeekLemmas
+pub mod ParamLemmas
+pub mod RowLemmas
+pub mod MatchLemmas
 pub mod AnswerLemmas
 pub mod BodyLemmas
 pub mod StringsLemmas

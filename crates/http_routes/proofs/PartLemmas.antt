@@ -1,7 +1,7 @@
--- What stands before and after a place, by what is found there.
-use Rattle.std.proofs.Common.{◌≡◌, ℕ, ◌+◌, ◌-◌, ◌≤◌, Bool, true, false, List, [], length, take, drop, Some, None, cond, refl, sym, ap, ◌∙◌, arith, length-drop, drop_of_length-le}
+-- What stands before a place, by what is found there.
+use Rattle.std.proofs.Common.{◌≡◌, ℕ, ◌≤◌, Bool, true, false, List, length, take, Some, None, cond, refl, sym, ap, arith}
 use Rattle.std.specs.Prelude.{nat_lt, position}
-use Rattle.std.specs.List.{position_or_len, before_first, after_first}
+use Rattle.std.specs.List.{position_or_len, before_first}
 use Rattle.std.proofs.lemmas.List.{take_all}
 use Rattle.std.proofs.lemmas.Bool.Decides.{nat_tests}
 
@@ -25,17 +25,5 @@ module _ (p : ℕ → Bool) (bytes : List ℕ) where
   pub before_first-at : (i : ℕ) → Some i ≡ position p bytes → take i bytes ≡ before_first p bytes
   before_first-at i e = ap (λ (n : ℕ). take n bytes) (sym (place_is i e))
 
-  pub after_first-at : (i : ℕ) → Some i ≡ position p bytes
-      → take (length bytes - (i + 1)) (drop (i + 1) bytes) ≡ after_first p bytes
-  after_first-at i e =
-      take_all (length bytes - (i + 1)) (drop (i + 1) bytes) (omega (arith, length-drop (i + 1) bytes))
-      ∙ ap (λ (n : ℕ). drop (n + 1) bytes) (sym (place_is i e))
-
   pub before_first-none : None ≡ position p bytes → bytes ≡ before_first p bytes
   before_first-none e = sym (take_all (position_or_len p bytes) bytes (past e))
-
-  pub after_first-none : None ≡ position p bytes → [] ≡ after_first p bytes
-  after_first-none e =
-      let h = past e in
-      let beyond : length bytes ≤ position_or_len p bytes + 1 = omega arith in
-      sym (drop_of_length-le bytes beyond)

@@ -4,7 +4,7 @@ use Rattle.matchit.specs.Route.{Scan, parse_route}
 use Rattle.matchit.specs.Router.{nearest}
 use Rattle.matchit.specs.declared.error.InsertError.{InsertError}
 use Rattle.http_routes.specs.declared.router.Route.{Route}
-use Rattle.http_routes.specs.Routes.{route_text, Routes}
+use Rattle.http_routes.specs.Rows.{route_text, Routes}
 
 -- the text reads well, and no route of these conflicts with it
 abbrev pub IsFreeAt : Result Scan InsertError → Routes → Type 0

@@ -1,8 +1,7 @@
--- The parts of a request's target.
+-- The parts of a request's target, and their texts.
 -- Which they are is this project's own rule.
-use Rattle.std.specs.Prelude.{ℕ, ◌==◌, Bool, List, length, drop, codes, Option, Some, None}
-use Rattle.std.specs.Prelude.{if◌then◌else◌}
-use Rattle.std.specs.List.{before_first, after_first}
+use Rattle.std.specs.Prelude.{ℕ, ◌==◌, Bool, List, Option, Some, None, if◌then◌else◌}
+use Rattle.std.specs.List.{before_first}
 use Rattle.std.specs.Str.{is_utf8, byte}
 use Rattle.percent_encoding.specs.Percent.{percent_decode}
 
@@ -12,18 +11,6 @@ is_slash b = b == byte "/"
 -- the path of a target: what stands before its first `?`, or all of it
 abbrev pub path_of : List ℕ → List ℕ
 path_of target = before_first (λ b. b == byte "?") target
-
--- `{n}`: what follows `/bugs/`
-abbrev pub bug_part : List ℕ → List ℕ
-bug_part path = drop (length (codes "/bugs/")) path
-
--- `{package}`: what follows `/list/`, up to the next slash
-abbrev pub package_part : List ℕ → List ℕ
-package_part path = before_first is_slash (drop (length (codes "/list/")) path)
-
--- `{*version}`: what follows that slash
-abbrev pub version_part : List ℕ → List ℕ
-version_part path = after_first is_slash (drop (length (codes "/list/")) path)
 
 -- The text of a part: its bytes with each escape decoded, once, where these are UTF-8 (the URL
 -- Standard's percent-decoding).

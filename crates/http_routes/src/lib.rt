@@ -4,6 +4,7 @@
 mod answers;
 mod body;
 mod decoding;
+mod found;
 mod laws;
 mod members;
 mod parts;
@@ -12,9 +13,10 @@ mod router;
 pub use answers::{bug_json, control_json, error_json, ok_json};
 pub use body::parse;
 pub use decoding::decoded_text;
-pub use laws::paths_have_these_routes;
+pub use found::{Found, ListParts};
+pub use laws::{a_path_has_one_route, paths_have_these_routes, the_router_finds_the_route};
 pub use members::{
     ControlMembers, ReportMembers, branch_member, control_members, id_member, report_members,
 };
-pub use parts::{ListParts, bug_part, list_parts, path};
-pub use router::{Route, find_route, method};
+pub use parts::path;
+pub use router::{Route, RouteTable, method};

@@ -1,12 +1,15 @@
 //! The five routes, and which of them a path has.
 
-ghost use Rattle.std.specs.Prelude.{◌≡◌, [], IfOk, OnOk, option_map};
-ghost use Rattle.matchit.specs.Seek.{first};
-ghost use Rattle.http_routes.specs.Routes.{method, route_text, with_route};
+ghost use Rattle.std.specs.Prelude.{◌≡◌, [], OnOk, IfSome, IfNone, IsSome, Some, option_map};
+ghost use Rattle.matchit.specs.Params.{AllText, named};
+ghost use Rattle.http_routes.specs.Routes.{method, HasRoute, HasNoRoute, route_at};
+ghost use Rattle.http_routes.specs.Shown.{found_shown};
+ghost use Rattle.http_routes.specs.Rows.{route_text, with_route, routes};
 ghost use Rattle.http_routes.specs.Free.{IsFree};
-ghost use Rattle.http_routes.specs.Routes.{routes, route_at};
+ghost use Rattle.http_routes.specs.Match.{parts_of, found_with};
 
-use matchit::{InsertError, Router};
+use crate::found::{Found, ListParts};
+use matchit::{InsertError, Params, Router};
 use std::alloc::{AllocError, Global};
 
 /// A route of the desk.
@@ -61,39 +64,88 @@ fn add(router: &mut Router<Route>, route: Route) -> Result<(), AllocError>
 }
 
 // Adds the five routes to a router that has none.
+// Of all orders this one takes the fewest instructions.
 fn add_routes(router: &mut Router<Route>) -> Result<(), AllocError>
     requires { router.old ≡ [] }
     ensures { OnOk result (router.new ≡ routes) }
 {
-    add(router, Route::Bugs)?;
-    add(router, Route::Control)?;
     add(router, Route::Branches)?;
+    add(router, Route::Control)?;
     add(router, Route::Bug)?;
-    add(router, Route::List)
+    add(router, Route::List)?;
+    add(router, Route::Bugs)
 }
 
-// The route that a router gives for a path.
-fn route_in(router: &Router<Route>, path: &str) -> Option<Route>
-    ensures { result ≡ option_map (λ row. row.value) (first router.now path.now) }
+// The part of this name, which was found.
+fn part<'p>(params: &Params<'_, 'p>, name: &str) -> &'p str
+    requires text { AllText (parts_of params.now) }
+    requires there { IsSome (named name.now (parts_of params.now)) }
+    ensures { named name.now (parts_of params.now) ≡ Some result.now }
+{
+    match params.get(name) {
+        Some(part) => part,
+        None => unreachable!(),
+    }
+}
+
+// A route with its parts, which were found.
+fn with_parts<'p>(route: Route, params: &Params<'_, 'p>) -> Found<'p>
+    requires text { AllText (parts_of params.now) }
+    requires there { IsSome (found_with route (parts_of params.now)) }
+    ensures { found_with route (parts_of params.now) ≡ Some (found_shown result) }
+{
+    match route {
+        Route::Bugs => Found::Bugs,
+        Route::Control => Found::Control,
+        Route::Branches => Found::Branches,
+        Route::Bug => Found::Bug(part(params, "n")),
+        Route::List => Found::List(ListParts {
+            package: part(params, "package"),
+            version: part(params, "version"),
+        }),
+    }
+}
+
+// The route that the router finds for a path, with its parts.
+fn found_in<'p>(router: &Router<Route>, path: &'p str) -> Option<Found<'p>>
+    requires { router.now ≡ routes }
+    ensures { option_map found_shown result ≡ route_at path.now }
 {
     match router.at(path) {
-        Ok(found) => Some(*found.value),
+        Ok(found) => Some(with_parts(*found.value, &found.params)),
         Err(_) => None,
     }
 }
 
-/// The route of a path, by the rules of `matchit`.
-/// `{n}` and `{package}` stand for one byte or more without a slash, `{*version}` for one byte or
-/// more up to the end, and any other byte of a route for itself.
-/// Nothing of the path is decoded before.
-///
-/// # Errors
-///
-/// Where there is no memory for the routes, and for no other reason.
-pub fn find_route(alloc: Global, path: &str) -> Result<Option<Route>, AllocError>
-    ensures { IfOk result (λ route. route ≡ route_at path.now) }
-{
-    let mut router = Router::new(alloc);
-    add_routes(&mut router)?;
-    Ok(route_in(&router, path))
+/// The table of the five routes, ready to be asked for the route of a path.
+#[derive(Drop)]
+pub struct RouteTable {
+    router: Router<Route>,
+    ghost five: { router ≡ routes },
+}
+
+impl RouteTable {
+    /// The table of the five routes.
+    ///
+    /// # Errors
+    ///
+    /// Where there is no memory for it, and for no other reason.
+    pub fn new(alloc: Global) -> Result<RouteTable, AllocError> {
+        let mut router = Router::new(alloc);
+        add_routes(&mut router)?;
+        Ok(RouteTable { router })
+    }
+
+    /// The route of a path, with its parts, which `matchit` finds.
+    /// `{n}` and `{package}` stand for one byte or more without a slash, `{*version}` for one byte
+    /// or more up to the end, and any other byte of a route for itself.
+    /// Nothing of the path is decoded before, and nothing takes memory.
+    /// This is this project's own rule.
+    pub fn find<'p>(&self, path: &'p str) -> Option<Found<'p>>
+        ensures route { option_map found_shown result ≡ route_at path.now }
+        ensures has { IfSome result (λ found. HasRoute path.now (found_shown found)) }
+        ensures none { IfNone result (HasNoRoute path.now) }
+    {
+        found_in(&self.router, path)
+    }
 }

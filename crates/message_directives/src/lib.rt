@@ -16,4 +16,4 @@ pub use lists::list_of;
 pub use pages::page_of;
 pub use reporting::report;
 pub use told::{QuestionFault, Told};
-pub use transcript::{received_bytes, received_text};
+pub use transcript::{line_of_end, received_bytes, received_text, transcript_bytes};

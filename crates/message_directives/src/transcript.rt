@@ -1,6 +1,6 @@
 //! The transcript of a message.
 
-ghost use Rattle.std.specs.Prelude.{◌≡◌, ◌++◌, IfOk, OnOk, OnErr, IsUtf8};
+ghost use Rattle.std.specs.Prelude.{◌≡◌, ◌≢◌, ◌++◌, [], IfOk, OnOk, OnErr, IsUtf8};
 ghost use Rattle.control_lines.specs.Lines.{lines_of};
 ghost use Rattle.message_directives.specs.Transcripts.{transcript, line_of_end, received_text};
 
@@ -20,6 +20,7 @@ fn append_outcomes(
 ) -> Result<(), AllocError>
     ensures ok { OnOk result (out.new.items ≡ out.old.items ++ transcript outcomes.now) }
     ensures utf8 { IsUtf8 out.old.items → IsUtf8 out.new.items }
+    ensures some { OnErr result (outcomes.now ≢ []) }
 {
     for entry in outcomes {
         outcome_text(alloc, out, entry.0.as_str(), &entry.1)?;
@@ -27,8 +28,8 @@ fn append_outcomes(
     Ok(())
 }
 
-// The line at which the store failed, if it did and there is such a line.
-fn line_of_end(end: End, lines: &[Text]) -> &str
+/// The line at which the store failed, if it did and there is such a line; else an empty one.
+pub fn line_of_end(end: End, lines: &[Text]) -> &str
     ensures { result.now ≡ line_of_end end lines.now }
 {
     let End::Store(_, line) = end else {
@@ -37,6 +38,25 @@ fn line_of_end(end: End, lines: &[Text]) -> &str
     match lines.get(line.saturating_sub(1) as usize) {
         Some(line) => line.as_str(),
         None => "",
+    }
+}
+
+/// The two lines of each of these outcomes.
+/// They are UTF-8.
+///
+/// # Errors
+///
+/// Where there is no memory; none is asked for where there is no outcome.
+pub fn transcript_bytes(alloc: Global, outcomes: &[(Text, Outcome)]) -> Result<Vec<u8>, AllocError>
+    ensures text { IfOk result (λ text. text.items ≡ transcript outcomes.now) }
+    ensures some { OnErr result (outcomes.now ≢ []) }
+    ensures utf8 { IfOk result (λ text. IsUtf8 text.items) }
+{
+    let mut text = Vec::new(alloc);
+    let _ = text.reserve(outcomes.len().saturating_mul(OUTCOME));
+    match append_outcomes(alloc, &mut text, outcomes) {
+        Ok(()) => Ok(text),
+        Err(fault) => Err(fault),
     }
 }
 
@@ -55,10 +75,7 @@ pub fn received_bytes(
     ensures text { IfOk result (λ text. text.items ≡ received_text received.now.outcomes received.now.end lines.now) }
     ensures utf8 { IfOk result (λ text. IsUtf8 text.items) }
 {
-    let outcomes = received.outcomes.as_slice();
-    let mut text = Vec::new(alloc);
-    let _ = text.reserve(outcomes.len().saturating_mul(OUTCOME));
-    append_outcomes(alloc, &mut text, outcomes)?;
+    let mut text = transcript_bytes(alloc, received.outcomes.as_slice())?;
     let line = line_of_end(received.end, lines);
     end_text(alloc, &mut text, received.end, line)?;
     Ok(text)

@@ -1,5 +1,6 @@
 pub mod CommandLemmas
 pub mod DecidingLemmas
+pub mod FailedLemmas
 pub mod MachineLemmas
 pub mod ToldLemmas
 pub mod KeepLemmas

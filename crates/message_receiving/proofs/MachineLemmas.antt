@@ -1,12 +1,14 @@
 -- The machine over lists of lines.
 use Rattle.std.proofs.Common.{◌≡◌, ℕ, ◌<◌, ◌≤◌, ◌+◌, List, [], ◌∷◌, ◌++◌, length, get_or, take, drop, sym, ◌∙◌, ap, subst, refl, true}
-use Rattle.std.proofs.Common.{false}
-use Rattle.std.proofs.lemmas.List.{take_all, take_more, take-append-drop}
+use Rattle.std.proofs.Common.{false, arith, IsTrue, ◌-◌}
+use Rattle.std.proofs.lemmas.List.{take_all, take_more, take-append-drop, get_or_default}
 use Rattle.bug_record.specs.Desk.{Desk}
 use Rattle.bug_record.specs.Words.{Names}
 use Rattle.control_grammar.specs.Lines.{reading}
 use Rattle.base_faults.specs.declared.store_fault.End.{End}
 use Rattle.base_faults.specs.declared.store_fault.End.TheVariants as ends
+use Rattle.base_faults.specs.declared.store_fault.StoreFault.{StoreFault}
+use Rattle.store_contract.specs.Kept.{has_outcome}
 use Rattle.store_contract.specs.Store.{Faults, faults_after_end, with_change}
 use Rattle.store_contract.specs.Message.{Entry, Machine, machine, after_lines, at_start, takes, takes_at, end_of}
 use Rattle.store_contract.specs.Message.{Comes, IsReceived}
@@ -106,6 +108,18 @@ settled_line es ends.All lines h = tt
 settled_line es ends.Stopped lines h = tt
 settled_line es ends.TooManyUnreadable lines h = tt
 settled_line es (ends.Store fault k) lines h = absurd (never_store es fault k h)
+
+-- where the store failed at this line, that is the line that is told
+pub failed_line : (lines : List (List ℕ)) (i : ℕ) (line : List ℕ) (fault : StoreFault) (end : End) → i < length lines
+    → line ≡ get_or lines i line → IsTrue (has_outcome line) → end ≡ ends.Store fault (i + 1) → IsLineOf end lines
+failed_line lines i line fault end lt is there at =
+    let back : i ≡ i + 1 - 1 = omega arith in
+    subst (λ (e : End). IsLineOf e lines) (sym at) (
+      omega arith,
+      omega (arith, lt),
+      subst (λ (l : List ℕ). IsTrue (has_outcome l))
+          (is ∙ get_or_default lines i line [] lt ∙ ap (λ (j : ℕ). get_or lines j []) back) there,
+    )
 
 -- all lines were taken
 pub received_all : (sender : List ℕ) (lines : List (List ℕ)) (old new : Desk) (i : ℕ) (items outcomes : List Entry) → length lines ≤ i

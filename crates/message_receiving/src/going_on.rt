@@ -1,6 +1,6 @@
 //! A message that has an id, as it goes on after what is kept of it.
 
-ghost use Rattle.std.specs.Prelude.{◌≡◌, ◌≤◌, ◌+◌, ◌∷◌, [], length, take, true, Some, IfOk, OnOk, OnErr, slice_get};
+ghost use Rattle.std.specs.Prelude.{◌≡◌, ◌≤◌, ◌+◌, ◌∷◌, [], length, take, true, Some, IfOk, OnOk, OnErr, IsTrue, slice_get};
 ghost use Rattle.base_words.specs.Texts.{IsText};
 ghost use Rattle.control_lines.specs.Lines.{lines_of};
 ghost use Rattle.store_contract.specs.Store.{Holds, Since, faults_after, faults_after_end};
@@ -55,6 +55,7 @@ fn take_line<S: Records>(
     ensures known { OnOk result (progress.new.known.names ≡ known_names progress.new.outcomes.items) }
     ensures end { IfOk result (λ end. end_of progress.new.outcomes.items ≡ end) }
     ensures same { OnErr result (progress.new.outcomes.items ≡ progress.old.outcomes.items) }
+    ensures failed { OnErr result (IsTrue (has_outcome line.now)) }
 {
     match decide_line(alloc, store, from, progress, line) {
         Ok(Some((text, decision))) => {

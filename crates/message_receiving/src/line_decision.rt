@@ -1,6 +1,6 @@
 //! One line of a message, decided.
 
-ghost use Rattle.std.specs.Prelude.{◌≡◌, ◌<◌, [], vec_len, vec_capacity, is_some, true, IfOk, OnErr, Ok, Some, Result};
+ghost use Rattle.std.specs.Prelude.{◌≡◌, ◌<◌, [], vec_len, vec_capacity, is_some, true, IfOk, OnErr, Ok, Some, Result, IsTrue};
 ghost use Rattle.base_words.specs.Texts.{IsText, IfGiven};
 ghost use Rattle.bug_record.specs.Commands.{HasGoodParts, bugs_named, names_in};
 ghost use Rattle.bug_record.specs.Sets.{Each};
@@ -91,7 +91,8 @@ fn decide_command_line<S: Records>(
 /// outcome.
 /// Room is made for the outcome, and the names are known that the line gives, so that `settle` may
 /// add it.
-/// After a fault the outcomes are as before, and no more lines may be taken.
+/// After a fault the outcomes are as before, and no more lines may be taken; a blank line and a
+/// comment have none, since they take no memory and ask nothing.
 pub fn decide_line<S: Records>(
     alloc: Global,
     store: &mut S,
@@ -107,6 +108,7 @@ pub fn decide_line<S: Records>(
         × HaveNumbers progress.new.known.names)) }
     ensures fits { S.is_kept store.new → S.is_honest store.new → IfOk result (FitsDecided (S.desk store.new)) }
     ensures told { IfOk result (λ decided. is_some decided ≡ has_outcome line.now) }
+    ensures failed { OnErr result (IsTrue (has_outcome line.now)) }
     ensures outcomes { progress.new.outcomes.items ≡ progress.old.outcomes.items }
     ensures ready { IfOk result
         (IsReadyFor progress.new.outcomes.items progress.new.unreadable progress.new.known.names line.now) }

@@ -1,6 +1,6 @@
 //! A message: its lines, taken one at a time.
 
-ghost use Rattle.std.specs.Prelude.{◌≡◌, IfOk, OnOk, OnErr};
+ghost use Rattle.std.specs.Prelude.{◌≡◌, IfOk, OnOk, OnErr, IsTrue};
 ghost use Rattle.base_words.specs.Texts.{IsText};
 ghost use Rattle.store_contract.specs.Store.{Holds, with_change, faults_after, faults_after_end};
 ghost use Rattle.store_contract.specs.Message.{unreadable_count, end_of, known_names, machine, takes, IsReceived};
@@ -9,7 +9,8 @@ ghost use Rattle.message_plans.specs.Changes.{Fits};
 ghost use Rattle.store_contract.specs.Progress.{IsInStep};
 ghost use Rattle.message_receiving.specs.Taking.{TakesLine, HasMembers, CarriesOut};
 ghost use Rattle.control_lines.specs.Lines.{lines_of};
-ghost use Rattle.message_receiving.specs.Ends.{IsLineOf};
+ghost use Rattle.store_contract.specs.Kept.{has_outcome};
+ghost use Rattle.message_receiving.specs.Ends.{IsLineOf, IsLineOfSplit};
 ghost use Rattle.store_contract.specs.Tried.{LeavesTried, tried_by, tried_at};
 ghost use Rattle.control_grammar.specs.Lines.{reading};
 
@@ -63,6 +64,7 @@ fn take_line<S: Records>(
     ensures known { OnOk result (progress.new.known.names ≡ known_names progress.new.outcomes.items) }
     ensures end { IfOk result (λ end. end_of progress.new.outcomes.items ≡ end) }
     ensures same { OnErr result (progress.new.outcomes.items ≡ progress.old.outcomes.items) }
+    ensures failed { OnErr result (IsTrue (has_outcome line.now)) }
 {
     match decide_line(alloc, store, from, progress, line) {
         Ok(Some((text, decision))) => {
@@ -76,6 +78,7 @@ fn take_line<S: Records>(
 
 /// Takes the lines of a message from this sender, as `receive` does: a line stands here without its
 /// line feed and the carriage return before it.
+/// The line that is told of a store fault is the one that failed: it is not blank and no comment.
 pub fn receive_lines<S: Records>(
     alloc: Global,
     store: &mut S,
@@ -110,6 +113,8 @@ pub fn receive_lines<S: Records>(
 /// At a store fault at line k the lines before k were carried out, line k changed nothing, and
 /// later ones were not taken; all growths of a line come before its change.
 /// Lines count from 1.
+/// Line k is the one that failed: it is not blank and no comment, except that line 1 is told where
+/// there was no memory to split the message into its lines.
 /// What is kept of messages that have an id stays.
 pub fn receive<S: Records>(alloc: Global, store: &mut S, from: &str, message: &str) -> Received
     requires { IsText from.now }
@@ -119,7 +124,7 @@ pub fn receive<S: Records>(alloc: Global, store: &mut S, from: &str, message: &s
     ensures crash { Holds S.is_kept S.is_honest store.old store.new
         (LeavesTried S.leaves store.old store.new (S.keeping store.old) (S.desk store.old) (S.desk store.new)
         (tried_at from.now (lines_of message.now) (S.desk store.old) result.end (S.desk store.new))) }
-    ensures line { IsLineOf result.end (lines_of message.now) }
+    ensures line { IsLineOfSplit result.end (lines_of message.now) }
     ensures count { S.faults store.new ≡ faults_after_end result.end (S.faults store.old) }
 {
     if message.is_empty() {

@@ -8,6 +8,9 @@ use Rattle.sqlite.specs.State.{State}
 use Rattle.sqlite.specs.declared.error.Error.{Error}
 use Rattle.sqlite_disk.specs.declared.Disk.{Ghosts}
 use Rattle.sqlite_disk.specs.declared.Files.{Files}
+use Rattle.sqlite_disk.specs.declared.modelled.Modelled.{Modelled}
+use Rattle.sqlite_disk.specs.declared.start.Start.{Ghosts as Start}
+use Rattle.sqlite_std_file.specs.declared.host.Host.{Host}
 use Rattle.sqlite_store.specs.FileStore.{view}
 use Rattle.sqlite_store.specs.Laws.{settled_at}
 use Rattle.sqlite_store.specs.declared.store.FileStore.{FileStore}
@@ -24,8 +27,9 @@ use Rattle.table_opening.proofs.HeldLemmas.{shows_newest}
 use Rattle.desk_tables.specs.Files.{HoldDesk, HoldCopy, IsFoundIn}
 use Rattle.table_opening.specs.Shown.{IsDeskUnder, AreTablesUnder, HoldTables}
 use Rattle.desk_tables.specs.declared.desk.TableDesk.{TableDesk}
-use Rattle.program_jobs.specs.InFile.{HasHonestFile, IsKeptInFile, IsOpenedInFile}
-use Rattle.program_jobs.specs.Left.{AreCopied, AreUncopied, content_in_file, IsSameDesk}
+use Rattle.program_jobs.specs.InFile.{FileDesk, host, file_disk, HasHonestFile, IsKeptInFile, IsOpenedInFile}
+use Rattle.program_jobs.specs.Left.{AreCopied, AreUncopied, content_in_file, FilesLeft, IsClosedTo, IsLeftBy, IsSameDesk}
+use Rattle.program_jobs.specs.declared.left.LeftFiles.TheVariants.{Nothing, Untouched, Unconnected, Copied, Uncopied}
 
 -- what was committed of a desk under a schema are its tables
 committed_under : (k : ℕ) (c : Content) (s : State) → IsDeskUnder k c s → AreTablesUnder k c s.committed.trees
@@ -90,3 +94,12 @@ module _ {D : Type 0} {g : Ghosts D} (d : TableDesk (FileStore D g) over_files) 
       ] in
       let it = opened.found (content_in_file d) held honest in
       record { kept = it.0; desk = it.1; keeping = it.2 }
+
+-- what is left of a desk whose connection is closed
+pub left_by : {S : Type 0} (start : Start S) (d : FileDesk start) (conn : Held (FileStore (Modelled Host S host start) (file_disk start)))
+    (left : FilesLeft start) → conn ≡ d.conn → IsClosedTo start conn left → IsLeftBy start d left
+left_by start d conn Nothing is closed = absurd closed
+left_by start d conn (Untouched files) is closed = absurd closed
+left_by start d conn (Unconnected rest) is closed = absurd closed
+left_by start d conn (Copied files) is closed = λ honest. copied d conn files is (closed honest)
+left_by start d conn (Uncopied error last) is closed = uncopied d conn error last (λ f. inl refl) is closed.0 closed.1

@@ -1,8 +1,7 @@
 pub mod WrittenLemmas
 pub mod ServerLemmas
-pub mod FileLemmas
+pub mod UntouchedLemmas
+pub mod RefusalLemmas
 pub mod LeftLemmas
 pub mod JobLemmas
 pub mod LeavingLemmas
-pub mod TextLemmas
-pub mod CutLemmas

@@ -1,5 +1,5 @@
 -- A desk in a file, as a store.
-use Rattle.std.specs.Prelude.{ℕ, ◌≡◌, ⊤, false, []}
+use Rattle.std.specs.Prelude.{ℕ, ◌≡◌, false, []}
 use Rattle.sqlite_disk.specs.Events.{replay}
 use Rattle.sqlite_disk.specs.History.{MayLeave}
 use Rattle.sqlite_disk.specs.Modelled.{start_of}
@@ -23,8 +23,6 @@ use Rattle.desk_tables.specs.Files.{HoldDesk}
 use Rattle.store_contract.specs.Crashes.{Holding}
 use Rattle.desk_tables.specs.Desk.{desk_of, keeping_of, HasKeptTables, LeavesTables}
 use Rattle.desk_tables.specs.declared.desk.TableDesk.{TableDesk}
-use Rattle.program_jobs.specs.declared.ending.Cause.{Cause}
-use Rattle.program_jobs.specs.declared.ending.Cause.TheVariants.{Store, NoFile, InUse, NotADesk, NewerSchema, NotEmpty, CannotOpen}
 
 -- the calls of a file of the system, as `sqlite_std_file` notes them
 abbrev pub host : calls.Ghosts Host
@@ -82,32 +80,13 @@ module _ {D : Type 0} {g : disk.Ghosts D} where
     pub found : (c : Content) → HoldDesk image c → HasHonestFile d
         → IsKeptInFile d × (desk_in_file d ≡ desk_in c) × (keeping_in_file d ≡ keeping_in c)
 
-  -- A desk was made, and is empty; its first bug gets this number.
-  pub record IsNewInFile (first : ℕ) (d : TableDesk (FileStore D g) over_files) : Type 0 where
+  -- A desk was made in files that held none, and is empty; its first bug gets this number.
+  pub record IsNewInFile (image : Image) (first : ℕ) (d : TableDesk (FileStore D g) over_files) : Type 0 where
+    pub blank : (c : Content) → HoldDesk image c → HasHonestFile d → ⊥
     pub kept : HasHonestFile d → IsKeptInFile d
     pub empty : HasHonestFile d → desk_in_file d ≡ empty_desk first
     pub none_kept : HasHonestFile d → keeping_in_file d ≡ none_kept
     pub uncounted : faults_in_file d ≡ no_faults
-
--- why the desk in a file is not opened
-abbrev pub IsOpenCause : Cause → Type 0
-IsOpenCause NoFile = ⊤
-IsOpenCause InUse = ⊤
-IsOpenCause NotADesk = ⊤
-IsOpenCause (NewerSchema number) = ⊤
-IsOpenCause CannotOpen = ⊤
-IsOpenCause (Store fault) = ⊤
-IsOpenCause cause = ⊥
-
--- why no desk is made in a file
-abbrev pub IsInitCause : Cause → Type 0
-IsInitCause InUse = ⊤
-IsInitCause NotADesk = ⊤
-IsInitCause (NewerSchema number) = ⊤
-IsInitCause NotEmpty = ⊤
-IsInitCause CannotOpen = ⊤
-IsInitCause (Store fault) = ⊤
-IsInitCause cause = ⊥
 
 -- what is supposed of the files as the program opens them: nothing is known of what they held
 abbrev pub wary : Ghosts Wary

@@ -1,6 +1,6 @@
 //! How the program ends.
 
-ghost use Rattle.std.specs.Prelude.{◌≡◌, ◌⊎◌};
+ghost use Rattle.std.specs.Prelude.{◌≡◌, ◌≢◌};
 ghost use Rattle.program_jobs.specs.Endings.{status_of, IsTold, end_by_output};
 
 use crate::complaint::write_complaint;
@@ -92,10 +92,11 @@ pub(crate) fn end_with<E: Write>(errors: &mut E, end: JobEnd) -> Ending
 
 /// Ends as a job that ended so does whose output is handed on at last: where it can't be, which a
 /// job without a fault is not told, that is the fault, and its complaint is written.
+/// Else the end stays, and nothing more is said of it.
 pub fn end_output<E: Write>(ending: Ending, is_written: bool, errors: &mut E) -> Ending
     ensures end { result.end ≡ end_by_output is_written ending.end }
-    ensures told { (result ≡ ending) × (errors.new ≡ errors.old)
-        ⊎ IsTold result.end result.is_told (E.contents errors.old) (E.contents errors.new) }
+    ensures once { result.end ≡ ending.end → (result ≡ ending) × (errors.new ≡ errors.old) }
+    ensures told { result.end ≢ ending.end → IsTold result.end result.is_told (E.contents errors.old) (E.contents errors.new) }
 {
     match (is_written, ending.end) {
         (false, JobEnd::Done | JobEnd::Refused) => end_with(errors, JobEnd::Fault(Cause::Output)),

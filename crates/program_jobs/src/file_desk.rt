@@ -7,18 +7,17 @@ ghost use Rattle.sqlite.specs.State.{HasCleanDisk};
 ghost use Rattle.sqlite.specs.Held.{IsNew};
 ghost use Rattle.sqlite.specs.Start.{FindsIn};
 ghost use Rattle.sqlite.specs.Files.{file_state, IsOpened};
-ghost use Rattle.program_jobs.specs.Endings.{cause_of_error, cause_of_opening};
-ghost use Rattle.program_jobs.specs.InFile.{IsOpenCause, IsInitCause, IsNewInFile, IsOpenedInFile};
+ghost use Rattle.program_jobs.specs.Endings.{cause_of_opening};
+ghost use Rattle.program_jobs.specs.InFile.{IsNewInFile, IsOpenedInFile};
 ghost use Rattle.program_jobs.specs.Left.{IsLeftBy};
+ghost use Rattle.program_jobs.specs.Refusals.{IsUnopened, IsUnmade};
 
+use crate::connecting::{close, connect, is_empty, look, open_pair};
 use crate::ending::Cause;
 use crate::left::LeftFiles;
-use base_faults::StoreFault;
 use desk_tables::{OpenFault, TableDesk};
-use sqlite::{Connection, Error, ErrorCode, FileFrom, FileStore, Start};
+use sqlite::{Connection, FileFrom, FileStore, Start};
 use std::alloc::Global;
-use std::fs;
-use std::io::ErrorKind;
 
 /// A desk in the tables of a database file and of the log beside it, whose name is the file's with
 /// `-wal` after it.
@@ -27,24 +26,6 @@ use std::io::ErrorKind;
 /// While the desk is open, no other process can open its file.
 /// What is answered of the desk is in the log, or in the file, as the call returns.
 pub type FileDesk<S> = TableDesk<FileStore<FileFrom<S>>>;
-
-// Why a file is not opened as a database.
-fn cause_of_error(error: Error) -> Cause
-    ensures is { result ≡ cause_of_error error }
-    ensures open { IsOpenCause result }
-    ensures init { IsInitCause result }
-{
-    match error {
-        Error::SqliteFailure(ErrorCode::CannotOpen) => Cause::CannotOpen,
-        Error::SqliteFailure(ErrorCode::DatabaseBusy) => Cause::InUse,
-        Error::SqliteFailure(ErrorCode::OutOfMemory) => Cause::Store(StoreFault::Memory),
-        Error::SqliteFailure(ErrorCode::DiskFull) => Cause::Store(StoreFault::Full),
-        Error::SqliteFailure(ErrorCode::TooBig) => Cause::Store(StoreFault::Full),
-        Error::SqliteFailure(ErrorCode::NotADatabase) => Cause::NotADesk,
-        Error::SqliteFailure(ErrorCode::DatabaseCorrupt) => Cause::NotADesk,
-        _ => Cause::Store(StoreFault::Device),
-    }
-}
 
 // Why a database is not opened as a desk's, or made one.
 fn cause_of(fault: OpenFault) -> Cause
@@ -58,56 +39,20 @@ fn cause_of(fault: OpenFault) -> Cause
     }
 }
 
-// Looks whether there is a file that may hold a desk.
-fn look(rt: &HostRuntime, path: &str) -> Result<(), Cause>
-    ensures { IfErr result IsOpenCause }
-{
-    match fs::metadata(rt, path) {
-        Ok(found) => {
-            if found.is_file() && found.len() == 0 {
-                return Err(Cause::NotADesk);
-            }
-            Ok(())
-        }
-        Err(error) => match error.kind() {
-            ErrorKind::NotFound => Err(Cause::NoFile),
-            _ => Err(Cause::CannotOpen),
-        },
-    }
-}
-
-// A connection to the database in a file, which is made where there is none.
-fn connect<S: Start>(
-    rt: &HostRuntime,
-    path: &str,
-    start: S,
-) -> Result<Connection<FileStore<FileFrom<S>>>, Cause>
-    ensures open { IfErr result IsOpenCause }
-    ensures init { IfErr result IsInitCause }
-    ensures fresh { IfOk result IsNew }
-    ensures opened { IfOk result (λ c. HasCleanDisk (file_state c) → IsOpened c) }
-    ensures found { IfOk result (λ c. HasCleanDisk (file_state c) → FindsIn (image_at S.Start) (file_state c)) }
-{
-    match Connection::open_from(rt, path, false, start) {
-        Ok(conn) => Ok(conn),
-        Err((error, _)) => Err(cause_of_error(error)),
-    }
-}
-
 // The desk that a database holds.
 fn open_over<S: Start>(
     alloc: Global,
     conn: Connection<FileStore<FileFrom<S>>>,
-) -> Result<FileDesk<S>, Cause>
+) -> Result<FileDesk<S>, (Cause, LeftFiles<FileFrom<S>>)>
     requires fresh { IsNew conn }
     requires opened { HasCleanDisk (file_state conn) → IsOpened conn }
     requires found { HasCleanDisk (file_state conn) → FindsIn (image_at S.Start) (file_state conn) }
-    ensures cause { IfErr result IsOpenCause }
+    ensures cause { IfErr result (λ e. IsUnopened S.Start e.0 e.1) }
     ensures opened { IfOk result (IsOpenedInFile (image_at S.Start)) }
 {
     match TableDesk::open(alloc, conn) {
         Ok(desk) => Ok(desk),
-        Err((fault, _)) => Err(cause_of(fault)),
+        Err((fault, conn)) => Err((cause_of(fault), close(conn))),
     }
 }
 
@@ -116,24 +61,29 @@ fn create_over<S: Start>(
     alloc: Global,
     conn: Connection<FileStore<FileFrom<S>>>,
     first: u64,
-) -> Result<FileDesk<S>, Cause>
+) -> Result<FileDesk<S>, (Cause, LeftFiles<FileFrom<S>>)>
     requires fresh { IsNew conn }
+    requires opened { HasCleanDisk (file_state conn) → IsOpened conn }
+    requires found { HasCleanDisk (file_state conn) → FindsIn (image_at S.Start) (file_state conn) }
     requires some { 1 ≤ first }
     requires few { first ≤ LARGEST_NUMBER }
-    ensures cause { IfErr result IsInitCause }
-    ensures made { IfOk result (IsNewInFile first) }
+    ensures cause { IfErr result (λ e. IsUnmade S.Start e.0 e.1) }
+    ensures made { IfOk result (IsNewInFile (image_at S.Start) first) }
 {
     match TableDesk::create(alloc, conn, first) {
         Ok(desk) => Ok(desk),
-        Err((fault, _)) => Err(cause_of(fault)),
+        Err((fault, found)) => Err((cause_of(fault), close(found))),
     }
 }
 
 /// Makes a desk in a file that is not there, or that is empty; its first bug gets this number:
 /// 1 to 999,999,999.
 /// It is synced as the call returns, in the log beside the file.
-/// Where it is refused, a file that holds a desk or other tables keeps its bytes, and an empty
-/// log may stay beside it; this is tested and not proved, as is which of the causes comes.
+/// Where it is refused, what is left of the files is handed back; a desk that they held they hold
+/// still, also after a crash.
+/// Where a connection failed while a log was taken over, that is what the toolchain says of it.
+/// A file that holds other tables keeps its bytes, and an empty log may stay beside it; this is
+/// tested and not proved, and so are `InUse` and `CannotOpen`, which the system tells.
 ///
 /// # Errors
 ///
@@ -146,20 +96,30 @@ pub fn create_desk<S: Start>(
     start: S,
     path: &str,
     first: u64,
-) -> Result<FileDesk<S>, Cause>
+) -> Result<FileDesk<S>, (Cause, LeftFiles<FileFrom<S>>)>
     requires some { 1 ≤ first }
     requires few { first ≤ LARGEST_NUMBER }
-    ensures cause { IfErr result IsInitCause }
-    ensures made { IfOk result (IsNewInFile first) }
+    ensures cause { IfErr result (λ e. IsUnmade S.Start e.0 e.1) }
+    ensures made { IfOk result (IsNewInFile (image_at S.Start) first) }
 {
-    let conn = connect(rt, path, start)?;
-    create_over(rt.alloc(), conn, first)
+    let (files, options) = match open_pair(rt, path, start) {
+        Ok(pair) => pair,
+        Err(cause) => return Err((cause, LeftFiles::Nothing)),
+    };
+    match connect(rt, files, options) {
+        Ok(conn) => create_over(rt.alloc(), conn, first),
+        Err((cause, rest)) => Err((cause, LeftFiles::Unconnected(rest))),
+    }
 }
 
 /// Opens the desk in a file.
 /// No file is made where there is none: the call looks first whether there is one, and another
 /// process may make or remove it between.
-/// This is tested and not proved, as is which of the causes comes.
+/// This is tested and not proved, and so are `NoFile`, `InUse` and `CannotOpen`, which the system
+/// tells.
+/// Where it is refused, what is left of the files is handed back; a desk that they held they hold
+/// still, also after a crash.
+/// Where a connection failed while a log was taken over, that is what the toolchain says of it.
 ///
 /// # Errors
 ///
@@ -168,13 +128,29 @@ pub fn create_desk<S: Start>(
 /// `NotADesk` where it is empty, no database, a damaged one, or one of something else;
 /// `NewerSchema` where a later version made it; `Store` of the fault where the store failed, and
 /// `Store(Foreign)` where its tables say schema 1 or 2 and are no desk's.
-pub fn open_desk<S: Start>(rt: &HostRuntime, start: S, path: &str) -> Result<FileDesk<S>, Cause>
-    ensures cause { IfErr result IsOpenCause }
+pub fn open_desk<S: Start>(
+    rt: &HostRuntime,
+    start: S,
+    path: &str,
+) -> Result<FileDesk<S>, (Cause, LeftFiles<FileFrom<S>>)>
+    ensures cause { IfErr result (λ e. IsUnopened S.Start e.0 e.1) }
     ensures opened { IfOk result (IsOpenedInFile (image_at S.Start)) }
 {
-    look(rt, path)?;
-    let conn = connect(rt, path, start)?;
-    open_over(rt.alloc(), conn)
+    if let Err(cause) = look(rt, path) {
+        return Err((cause, LeftFiles::Nothing));
+    }
+    let (mut files, options) = match open_pair(rt, path, start) {
+        Ok(pair) => pair,
+        Err(cause) => return Err((cause, LeftFiles::Nothing)),
+    };
+    // A connection would make a database in an empty file.
+    if is_empty(&mut files) {
+        return Err((Cause::NotADesk, LeftFiles::Untouched(files)));
+    }
+    match connect(rt, files, options) {
+        Ok(conn) => open_over(rt.alloc(), conn),
+        Err((cause, rest)) => Err((cause, LeftFiles::Unconnected(rest))),
+    }
 }
 
 /// Copies the log into the file, and hands both back, closed once they are dropped.
@@ -185,8 +161,5 @@ pub fn open_desk<S: Start>(rt: &HostRuntime, start: S, path: &str) -> Result<Fil
 pub fn close_desk<S: Start>(desk: FileDesk<S>) -> LeftFiles<FileFrom<S>>
     ensures { IsLeftBy S.Start desk result }
 {
-    match desk.close().close_files() {
-        Ok(files) => LeftFiles::Copied(files),
-        Err((error, store)) => LeftFiles::Uncopied(error, store),
-    }
+    close(desk.close())
 }

@@ -33,7 +33,7 @@ use std::io::{Read, Write};
 /// With an id, lines that were taken before are not taken again, and `NO id in use` is written
 /// where the id is known with another sender or text; an id that is none is bad words.
 /// Where a file can't be opened, or no desk can be made in it, nothing is written, and that is a
-/// fault.
+/// fault; a desk that the files held they hold still.
 /// At the end the log beside the file is copied into it, and the files are handed back: over an
 /// honest disk they hold the desk as the job left it, with the log and without it, also after a
 /// crash.
@@ -98,8 +98,8 @@ pub fn do_job_from<S: Start, R: Read, W: Write>(
     }
 }
 
-/// How a job ended; what is left of its files is closed.
-pub(crate) fn end_alone<D: Disk + Drop>(done: (JobEnd, LeftFiles<D>)) -> JobEnd
+// How a job ended; what is left of its files is closed.
+fn end_alone<D: Disk + Drop>(done: (JobEnd, LeftFiles<D>)) -> JobEnd
     ensures { result ≡ done.0 }
 {
     let (end, left) = done;

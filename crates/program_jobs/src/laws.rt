@@ -1,36 +1,36 @@
 //! Laws of the definitions that the contracts of this crate cite.
 
-ghost use Rattle.std.specs.Prelude.{◌≡◌, ℕ, List, Option};
-ghost use Rattle.bug_record.specs.Sets.{Each};
-ghost use Rattle.control_lines.specs.Lines.{lines_of};
+ghost use Rattle.std.specs.Prelude.{ℕ, List, Option};
 ghost use Rattle.sqlite_wal.specs.Files.{image_at};
 ghost use Rattle.sqlite_wal.specs.Reads.{AreClean};
 ghost use Rattle.program_jobs.specs.InFile.{file_disk, HasHonestFile, IsKeptInFile, IsOpenedInFile};
-ghost use Rattle.program_jobs.specs.Jobs.{message_text, HasItsDesk, IsJobLeaving, IsPlainLine};
+ghost use Rattle.program_jobs.specs.Jobs.{HasItsDesk, IsInit, IsJobLeaving};
 ghost use Rattle.program_jobs.specs.Left.{IsLeftBy, IsSameDesk};
 ghost use Rattle.program_jobs.specs.declared.ending.JobEnd.{JobEnd};
 ghost use Rattle.table_content.specs.Content.{Content};
-ghost use Rattle.desk_tables.specs.Files.{IsFoundIn, LeaveDesk};
+ghost use Rattle.desk_tables.specs.Files.{HoldDesk, IsFoundIn, LeaveDesk};
 ghost use Rattle.program_options.specs.declared.job.Job.{Job};
 
 use crate::file_desk::FileDesk;
 use crate::left::LeftFiles;
 use sqlite::{FileFrom, Files, Start};
 
-/// The text of a message that is made of lines is cut into these lines again, where none is empty
-/// and none has a line end, as those that words stand for.
-/// So a message of words that has an id has their lines.
-pub fn sent_lines_are_cut_again()
-    ensures { (lines : List (List ℕ)) → Each IsPlainLine lines → lines_of (message_text lines) ≡ lines }
-{}
-
 /// A job over the desk in a file leaves a desk there, with the log and without it, also after a
-/// crash, as far as the disk was honest; so does the job that makes one.
+/// crash, as far as the disk was honest; so does the job that makes one, and so does one that is
+/// refused where a desk is there.
 /// Which desk that is, the clause of `do_job_from` tells.
 pub fn a_job_leaves_a_desk<S: Start>(_files: &Files<FileFrom<S>>)
     ensures { (job : Job) (r0 c0 c1 : Option (List ℕ)) (end : JobEnd) → IsJobLeaving S.Start job r0 c0 c1 end (LeftFiles.Copied _files.now)
-        → AreClean (file_disk S.Start) _files.now.log _files.now.db → HasItsDesk job (image_at S.Start)
+        → AreClean (file_disk S.Start) _files.now.log _files.now.db → HasItsDesk job end (image_at S.Start)
         → (c : Content) × LeaveDesk (file_disk S.Start) _files.now c }
+{}
+
+/// The job that makes a desk never overwrites one: where the files held a desk, they hold it as the
+/// job ends, with the log and without it, also after a crash, as far as the disk was honest.
+pub fn init_overwrites_no_desk<S: Start>(_files: &Files<FileFrom<S>>)
+    ensures { (first : ℕ) (c0 c1 : Option (List ℕ)) (end : JobEnd) → IsInit S.Start first c0 c1 end (LeftFiles.Copied _files.now)
+        → AreClean (file_disk S.Start) _files.now.log _files.now.db → (c : Content) → HoldDesk (image_at S.Start) c
+        → LeaveDesk (file_disk S.Start) _files.now c }
 {}
 
 /// What one job left is what the next one finds.

@@ -22,6 +22,7 @@ pub(crate) fn give_text<W: Write>(writer: &mut W, text: &str, end: JobEnd) -> Jo
 
 /// Makes a desk in a file that is not there or is empty, writes the line `OK`, and answers how that
 /// ended, with what is left of the files.
+/// Where the files held a desk they hold it still.
 pub(crate) fn make_desk<S: Start, W: Write>(
     rt: &HostRuntime,
     start: S,
@@ -39,6 +40,6 @@ pub(crate) fn make_desk<S: Start, W: Write>(
             let end = give_text(writer, "OK\n", JobEnd::Done);
             (end, close_desk(desk))
         }
-        Err(cause) => (JobEnd::Fault(cause), LeftFiles::Nothing),
+        Err((cause, left)) => (JobEnd::Fault(cause), left),
     }
 }

@@ -88,6 +88,6 @@ pub(crate) fn run_script_in_file<S: Start, R: Read, W: Write>(
             let end = run_script_over(rt.alloc(), &mut desk, reader, writer);
             (end, close_desk(desk))
         }
-        Err(cause) => (JobEnd::Fault(cause), LeftFiles::Nothing),
+        Err((cause, left)) => (JobEnd::Fault(cause), left),
     }
 }

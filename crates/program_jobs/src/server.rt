@@ -3,7 +3,7 @@
 ghost use Rattle.std.specs.Prelude.{◌≡◌};
 ghost use Rattle.program_jobs.specs.Endings.{end_of_server};
 ghost use Rattle.program_jobs.specs.Jobs.{IsServer, IsServerOver, IsOverFile};
-ghost use Rattle.program_jobs.specs.InFile.{desk_in_file, keeping_in_file, IsKeptInFile, HasHonestFile, faults_in_file};
+ghost use Rattle.program_jobs.specs.InFile.{desk_in_file, keeping_in_file, IsKeptInFile, HasHonestFile, leaves_in_file, faults_in_file};
 
 use crate::ending::{Cause, JobEnd};
 use crate::file_desk::{close_desk, open_desk};
@@ -39,7 +39,7 @@ pub fn serve_over<D: Records, W: Write>(
     count: u64,
     writer: &mut W,
 ) -> JobEnd
-    ensures { IsServerOver D.is_kept D.is_honest D.desk D.keeping D.faults port count (W.contents writer.old) (W.contents writer.new)
+    ensures { IsServerOver D.is_kept D.is_honest D.desk D.keeping D.faults D.leaves port count (W.contents writer.old) (W.contents writer.new)
         desk.old desk.new result }
 {
     end_of(port, serve_port(rt, alloc, desk, port, count, writer))
@@ -76,7 +76,7 @@ pub(crate) fn serve_file<S: Start, W: Write>(
     writer: &mut W,
 ) -> (JobEnd, LeftFiles<FileFrom<S>>)
     ensures { IsOverFile S.Start (W.contents writer.old) (W.contents writer.new) result.0 result.1
-        (λ old new. IsServerOver IsKeptInFile HasHonestFile desk_in_file keeping_in_file faults_in_file port count
+        (λ old new. IsServerOver IsKeptInFile HasHonestFile desk_in_file keeping_in_file faults_in_file leaves_in_file port count
         (W.contents writer.old) (W.contents writer.new) old new result.0) }
 {
     match open_desk(rt, start, path) {
@@ -84,6 +84,6 @@ pub(crate) fn serve_file<S: Start, W: Write>(
             let end = serve_over(rt, rt.alloc(), &mut desk, port, count, writer);
             (end, close_desk(desk))
         }
-        Err(cause) => (JobEnd::Fault(cause), LeftFiles::Nothing),
+        Err((cause, left)) => (JobEnd::Fault(cause), left),
     }
 }

@@ -5,10 +5,14 @@ mod command_jobs;
 mod cut;
 mod help;
 mod job;
+mod laws;
 mod message;
 mod numbers;
 mod options;
 mod reading;
+mod text;
 
 pub use job::{Job, Lines, WordsError};
+pub use laws::sent_lines_are_cut_again;
 pub use reading::read_words;
+pub use text::message_text;

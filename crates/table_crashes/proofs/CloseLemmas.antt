@@ -8,7 +8,6 @@ use Rattle.sqlite_disk.specs.declared.Files.{Files}
 use Rattle.sqlite_store.specs.FileStore.{recovers}
 use Rattle.sqlite_store.specs.declared.store.FileStore.{FileStore}
 use Rattle.sqlite_trees.specs.Tree.{Trees}
-use Rattle.sqlite_wal.specs.Files.{outcomes}
 use Rattle.sqlite_wal.specs.Reads.{AreClean}
 use Rattle.bug_record.specs.Desk.{Desk}
 use Rattle.store_contract.specs.Kept.{Keeping}
@@ -67,12 +66,3 @@ module _ {D : Type 0} {g : Ghosts D} where
         on : (o : Option (TableDesk (FileStore D g) over_files)) → IfSome o (λ again. HasHonestDisk over_files again → AreClean g files.log files.db) → FindsDesk o files → IsAgain o
         on None honest found = tt
         on (Some again) honest found = λ h kept. found h (content old) (left (honest h) kept).now.0
-
-    -- it crashes, and is opened again
-    pub crashed_then : (crashed : Files D) → outcomes g files.log files.db (image_of g crashed) → (AreClean g crashed.log crashed.db → AreClean g files.log files.db)
-        → IfSome o (λ again. HasHonestDisk over_files again → AreClean g crashed.log crashed.db) → FindsDesk o crashed → IsAgain o
-    crashed_then crashed may clean = on o
-      where
-        on : (o : Option (TableDesk (FileStore D g) over_files)) → IfSome o (λ again. HasHonestDisk over_files again → AreClean g crashed.log crashed.db) → FindsDesk o crashed → IsAgain o
-        on None honest found = tt
-        on (Some again) honest found = λ h kept. found h (content old) ((left (clean (honest h)) kept).crash (image_of g crashed) may).0

@@ -45,16 +45,16 @@ module _ {S : Type 0} (g : store.Ghosts S) where
       → LeavesTables old (desk_of old, keeping_of old) (desk_of old, keeping_of old)
       → Ends input rest (course_of (desk_of old) (desk_of new) n0 n1 c0 c1) r
       → LeavesParts LeavesTables old new (keeping_of old) (script_of input) (begin (desk_of old)) (desk_of new) r
-      → IsFoundAfter g (script_of input) (begin (desk_of old)) c0 c1 (keeping_of old) r again
+      → IsFoundAfter g input (begin (desk_of old)) c0 c1 (keeping_of old) r again
   found_here input rest c0 c1 n0 n1 old new again (Ok end) either alone ends left =
       let k = keeping_of old in
       let now = desk_of new in
-      subst (λ (z : Desk). IsSettled g z k again) ends.1 (one_settled now k again (either (now, k) (now, k) (left alone)))
+      subst (λ (z : Desk). IsSettled g z k again) ends.carried.desk (one_settled now k again (either (now, k) (now, k) (left alone)))
   found_here input rest c0 c1 n0 n1 old new again (Err fault) either alone ends left =
       let k = keeping_of old in
       let now = desk_of new in (
         now,
-        record { faults_before = n0; faults = n1; stops = ends.0 },
+        record { faults_before = n0; faults = n1; rest = rest; ends = ends },
         now_or_next (script_of input) (desk_of old) now left.0 k again left.1 (either (now, k) (left.0, k) (left.2 alone)),
       )
 
@@ -67,7 +67,7 @@ module _ {S : Type 0} (g : store.Ghosts S) where
       → Holds (HasKeptTables g) (HasHonestDisk g) old new
       (Known input (λ xs. LeavesParts LeavesTables old new (keeping_of old) (script_of xs) (begin (desk_of old)) (desk_of new) r))
       → IfSome o (λ again. HasHonestDisk g again → (d : Desk) (k : Keeping) → IsSettled g d k old
-      → Known input (λ xs. IsFoundAfter g (script_of xs) (begin d) c0 c1 k r again))
+      → Known input (λ xs. IsFoundAfter g xs (begin d) c0 c1 k r again))
   found_after None input rest c0 c1 n0 n1 old new r honest either answer left = tt
   found_after (Some again) input rest c0 c1 n0 n1 old new r honest either answer left = λ w d k was.
       let clean = honest w in
@@ -77,7 +77,7 @@ module _ {S : Type 0} (g : store.Ghosts S) where
       (subst (λ (z : Desk). LeavesTables old (z, k) (z, k)) (sym was.desk) (settled_alone g old d k was)) in
       record {
         known = λ xs e.
-            subst (λ (z : Keeping). IsFoundAfter g (script_of xs) (begin d) c0 c1 z r again) was.keeping
-            (subst (λ (z : Desk). IsFoundAfter g (script_of xs) (begin z) c0 c1 (keeping_of old) r again) was.desk
+            subst (λ (z : Keeping). IsFoundAfter g xs (begin d) c0 c1 z r again) was.keeping
+            (subst (λ (z : Desk). IsFoundAfter g xs (begin z) c0 c1 (keeping_of old) r again) was.desk
             (found_here xs rest c0 c1 n0 n1 old new again r (either w) alone (ends.known xs e) (tried.known xs e)));
       }

@@ -1,5 +1,5 @@
 -- What a crash leaves of a desk in tables.
-use Rattle.std.specs.Prelude.{◌≡◌, ◌⊎◌, ◌≤◌, ℕ, List, Option, Result, Ok, Err, ⊤}
+use Rattle.std.specs.Prelude.{◌≡◌, ◌⊎◌, ◌≤◌, ℕ, List, Option, Result, Ok, Err}
 use Rattle.sqlite.specs.Held.{state}
 use Rattle.sqlite.specs.State.{HasCleanDisk}
 use Rattle.sqlite_trees.specs.Tree.{Trees}
@@ -17,9 +17,9 @@ use Rattle.table_opening.specs.Shown.{AreTablesOf, AreTablesUnder, HoldTables}
 use Rattle.bug_record.specs.declared.outcome.Outcome.{Outcome}
 use Rattle.store_contract.specs.Kept.{Keeping}
 use Rattle.desk_run.specs.Calls.{TookOne}
-use Rattle.desk_run.specs.Script.{Part, Standing, after_parts}
+use Rattle.desk_run.specs.Script.{Standing, script_of, after_parts}
 use Rattle.desk_run.specs.Tried.{IsNextOf}
-use Rattle.desk_run.specs.Running.{Stops}
+use Rattle.desk_run.specs.Running.{Ends}
 use Rattle.store_contract.specs.Store.{Faults}
 use Rattle.desk_run.specs.declared.script.ScriptEnd.{ScriptEnd}
 use Rattle.control_lines.specs.declared.fault.ScriptFault.{ScriptFault}
@@ -29,19 +29,22 @@ use Rattle.desk_tables.specs.declared.desk.TableDesk.{TableDesk}
 abbrev pub HoldTablesFrom : ℕ → Content → Trees → Type 0
 HoldTablesFrom k c db = (j : ℕ) × (k ≤ j) × AreTablesUnder j c db
 
--- The script stopped with this desk, which has all that was answered, and this was written.
-pub record HasStopped (parts : List Part) (from : Standing) (written_before written : Option (List ℕ)) (fault : ScriptFault)
+-- The script of this input stopped with this desk, which has all that was answered, and this was
+-- written.
+pub record HasStopped (input : List ℕ) (from : Standing) (written_before written : Option (List ℕ)) (fault : ScriptFault)
     (now : Desk) : Type 0 where
   pub faults_before : Faults
   pub faults : Faults
-  pub stops : Stops parts (record {
+  -- what its reader has left, if that is known
+  pub rest : Option (List ℕ)
+  pub ends : Ends input rest (record {
     from = from;
     desk = now;
     faults_before = faults_before;
     faults = faults;
     written_before = written_before;
     written = written;
-  }) fault (λ after. ⊤)
+  }) (Err fault)
 
 module _ {S : Type 0} (g : store.Ghosts S) where
   -- so far the disk has returned what was written
@@ -80,12 +83,12 @@ module _ {S : Type 0} (g : store.Ghosts S) where
     pub took : TookOne id sender message outcome (d, k) (desk, keeping)
     pub settled : IsSettled desk keeping t
 
-  -- After a script of these parts, over a desk that was settled: it is settled as the desk after
+  -- After the script of this input, over a desk that was settled: it is settled as the desk after
   -- all of its lines, where it came to its end; and else as the desk after those that were
   -- answered, or after one line more.
-  abbrev pub IsFoundAfter : List Part → Standing → Option (List ℕ) → Option (List ℕ) → Keeping → Result ScriptEnd ScriptFault
+  abbrev pub IsFoundAfter : List ℕ → Standing → Option (List ℕ) → Option (List ℕ) → Keeping → Result ScriptEnd ScriptFault
       → TableDesk S g → Type 0
-  IsFoundAfter parts from written_before written k (Ok end) t = IsSettled (after_parts parts from).desk k t
-  IsFoundAfter parts from written_before written k (Err fault) t =
-      (now : Desk) × HasStopped parts from written_before written fault now
-      × (IsSettled now k t ⊎ ((next : Desk) × IsNextOf parts from now next × IsSettled next k t))
+  IsFoundAfter input from written_before written k (Ok end) t = IsSettled (after_parts (script_of input) from).desk k t
+  IsFoundAfter input from written_before written k (Err fault) t =
+      (now : Desk) × HasStopped input from written_before written fault now
+      × (IsSettled now k t ⊎ ((next : Desk) × IsNextOf (script_of input) from now next × IsSettled next k t))

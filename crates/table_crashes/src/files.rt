@@ -1,6 +1,6 @@
 //! A desk in two files that are closed and opened again.
 
-ghost use Rattle.std.specs.Prelude.{IfErr, IfOk, IfSome, IsTrue};
+ghost use Rattle.std.specs.Prelude.{◌≡◌, IfErr, IfOk, IfSome, IsTrue};
 ghost use Rattle.sqlite.specs.Files.{over_files, image_of};
 ghost use Rattle.sqlite_store.specs.FileStore.{recovers};
 ghost use Rattle.sqlite_trees.specs.Tree.{Trees};
@@ -8,6 +8,7 @@ ghost use Rattle.sqlite_wal.specs.Files.{outcomes};
 ghost use Rattle.sqlite_wal.specs.Reads.{AreClean};
 ghost use Rattle.bug_record.specs.Desk.{Desk};
 ghost use Rattle.store_contract.specs.Kept.{Keeping};
+ghost use Rattle.store_contract.specs.Store.{one_more};
 ghost use Rattle.table_content.specs.Content.{Content};
 ghost use Rattle.table_content.specs.View.{desk_in, keeping_in};
 ghost use Rattle.desk_tables.specs.Files.{HoldDesk, LeaveDesk};
@@ -15,10 +16,11 @@ ghost use Rattle.desk_tables.specs.Desk.{content_shown, desk_of, keeping_of};
 ghost use Rattle.table_opening.specs.Shown.{AreTablesOf};
 ghost use Rattle.table_crashes.specs.Settled.{HasHonestDisk, HasKeptTables, IsSettled};
 
+use crate::counting::CountsCrashes;
 use crate::opening::open_connection;
 use desk_tables::TableDesk;
 use sqlite::{Connection, FileStore, Files, Options};
-use sqlite_disk::{Crash, Disk};
+use sqlite_disk::Disk;
 use std::alloc::Global;
 
 /// Opens the desk in two files.
@@ -78,33 +80,18 @@ pub fn close_and_open<D: Disk + Drop>(
     }
 }
 
-// Both disks crash.
-fn crash_files<D: Crash>(files: Files<D>) -> Files<D>
-    ensures left { outcomes D.Disk files.log files.db (image_of D.Disk result) }
+/// Both disks crash, once each.
+/// Two files that a close has left with a desk hold it then.
+pub fn crash_files<D: CountsCrashes>(files: Files<D>) -> Files<D>
+    ensures log { D.crashes result.log ≡ one_more (D.crashes files.log) }
+    ensures db { D.crashes result.db ≡ one_more (D.crashes files.db) }
     ensures usable { IsTrue (D.Disk.is_usable result.log) × IsTrue (D.Disk.is_usable result.db) }
     ensures honest { AreClean D.Disk result.log result.db → AreClean D.Disk files.log files.db }
+    ensures left { outcomes D.Disk files.log files.db (image_of D.Disk result) }
+    ensures held { (c : Content) → LeaveDesk D.Disk files c → HoldDesk (image_of D.Disk result) c }
 {
     let mut files = files;
-    files.log.crash();
-    files.db.crash();
+    files.log.crash_once();
+    files.db.crash_once();
     files
-}
-
-/// Closes a desk in two files, crashes, and opens what is left: it is the same desk, and settled.
-/// `None` where it is not closed or not opened: out of memory, or by a fault of a disk.
-pub fn close_and_crash<D: Crash + Drop>(
-    alloc: Global,
-    desk: TableDesk<FileStore<D>>,
-    options: Options,
-) -> Option<TableDesk<FileStore<D>>>
-    ensures same { IfSome result (λ again. HasHonestDisk over_files again → HasKeptTables over_files desk →
-        IsSettled over_files (desk_of desk) (keeping_of desk) again) }
-{
-    match close_files(desk) {
-        Ok(files) => open_files(alloc, crash_files(files), options),
-        Err(store) => {
-            drop(store.close());
-            None
-        }
-    }
 }

@@ -9,6 +9,7 @@
 #![tactic(auto)]
 
 mod calls;
+mod counting;
 mod files;
 mod laws;
 mod left;
@@ -17,7 +18,8 @@ mod scripts;
 mod starts;
 
 pub use calls::{apply_and_crash, branch_and_crash, crash_and_open, keep_and_crash};
-pub use files::{close_and_crash, close_and_open, close_files, open_files};
+pub use counting::CountsCrashes;
+pub use files::{close_and_open, close_files, crash_files, open_files};
 pub use laws::{serving_desks_are_settled, settled_desks_are_left, what_is_left_is_found};
 pub use scripts::run_and_crash;
 pub use starts::{crash_in_open, create_and_crash, open_and_crash};

@@ -4,7 +4,7 @@ ghost use Rattle.std.specs.Prelude.{◌⊎◌, IfSome};
 ghost use Rattle.bug_record.specs.Desk.{Desk};
 ghost use Rattle.store_contract.specs.Kept.{Keeping};
 ghost use Rattle.control_lines.specs.Reading.{Known};
-ghost use Rattle.desk_run.specs.Script.{begin, script_of};
+ghost use Rattle.desk_run.specs.Script.{begin};
 ghost use Rattle.table_crashes.specs.Settled.{HasHonestDisk, IsSettled, IsFoundAfter};
 
 use crate::calls::crash_and_open;
@@ -32,7 +32,7 @@ pub fn run_and_crash<S: Alter + Reopen + Drop, R: Read, W: Write>(
     writer: &mut W,
 ) -> (Result<ScriptEnd, ScriptFault>, Option<TableDesk<S>>)
     ensures found { IfSome result.1 (λ again. HasHonestDisk S.Store again → (d : Desk) (k : Keeping) → IsSettled S.Store d k desk →
-        Known (R.remaining reader.old) (λ input. IsFoundAfter S.Store (script_of input) (begin d) (W.contents writer.old) (W.contents writer.new) k result.0 again)) }
+        Known (R.remaining reader.old) (λ input. IsFoundAfter S.Store input (begin d) (W.contents writer.old) (W.contents writer.new) k result.0 again)) }
 {
     let mut desk = desk;
     let ended = run_script(alloc, &mut desk, reader, writer);

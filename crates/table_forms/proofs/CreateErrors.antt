@@ -1,5 +1,5 @@
 -- When a CREATE TABLE and a CREATE INDEX are refused for memory, the disk or its size alone.
-use Rattle.std.proofs.Common.{◌≡◌, ◌≢◌, ◌≤◌, inl, inr, ℕ, ◌+◌, ◌^◌, List, [], ◌∷◌, length, codes, Bool, true, false, None, Some, Ok, Err, Result, IsTrue, IsUtf8, refl, sym, ap, subst, ◌∙◌, true≢false, not, ◌&&◌, ◌==◌}
+use Rattle.std.proofs.Common.{◌≡◌, ◌≤◌, inl, inr, ℕ, ◌+◌, ◌^◌, List, [], ◌∷◌, length, codes, Bool, true, false, None, Some, Ok, Err, Result, IsTrue, IsUtf8, refl, sym, ap, subst, ◌∙◌, true≢false, not, ◌&&◌, ◌==◌}
 use Rattle.std.specs.List.{AllByRecursion}
 use Rattle.std.specs.Str.{is_utf8}
 use Rattle.std.proofs.Math.Dec.{leb}
@@ -30,12 +30,11 @@ use Rattle.sqlite.specs.Listing.{understood}
 use Rattle.sqlite.specs.Rows.{Then}
 use Rattle.sqlite.specs.State.{State, mode_of, ExecutesInside}
 use Rattle.sqlite.proofs.Callers.{statement_of}
-use Rattle.table_forms.specs.Faults.{fault_of}
-use Rattle.base_faults.specs.declared.store_fault.StoreFault.TheVariants.{Foreign}
+use Rattle.table_forms.specs.Faults.{fault_of, IsFaultOf}
 use Rattle.table_forms.proofs.InsertLemmas.{same_value, off}
 use Rattle.table_forms.proofs.CreateLemmas.{CreatesTable, CreatesIndex}
-use Rattle.table_forms.proofs.ErrorLemmas.{IsStoreError, IsCallOf, fails_as, same_stop}
-use Rattle.table_forms.proofs.FailLemmas.{stored_free, not_foreign}
+use Rattle.table_forms.proofs.ErrorLemmas.{IsCallOf, fails_as, same_stop}
+use Rattle.table_forms.proofs.FailLemmas.{unless_refused}
 
 not_ok : {A E : Type 0} {a : A} {e : E} → ◌≡◌ {A = Result A E} (Ok a) (Err e) → ⊥
 not_ok h = cc
@@ -98,7 +97,7 @@ module _ (schema : Schema) (sql : List ℕ) (table : Table) (it : CreatesTable s
   undefined mode db e has (inl (stop, inl (first, made, told), is)) = unmade db e has (subst (λ s. MakesTable sql db (Err s)) (same_stop told ∙ same_stop is) made)
   undefined mode db e has (inl (stop, inr (mid, made, more), is)) = unsequenced db mid e has made (subst (λ s. MakesSequence mid (Err s)) (same_stop is) more)
 
-  table_errors : (old new : State) (e : Error) → old.now.schema ≡ schema → ExecutesInside 0 sql [] old new (Err e) → IsStoreError e
+  table_errors : (old new : State) (e : Error) → old.now.schema ≡ schema → ExecutesInside 0 sql [] old new (Err e) → IsFaultOf old new (fault_of e)
   table_errors old new e has h = elim (fails_as schema sql [] CreateTable sure.call old new has e h) [
     | inl store ↦ store
     | inr does ↦ absurd (undefined (mode_of old) (record { schema = schema; trees = old.now.trees }) e refl
@@ -106,8 +105,8 @@ module _ (schema : Schema) (sql : List ℕ) (table : Table) (it : CreatesTable s
         (subst (λ s. Defines (mode_of old) (Then (MakesTable (statement_of sql (understood schema sql)) s) MakesSequence) (Err (Some e))) (ap (λ s. let d : Database = record { schema = s; trees = old.now.trees } in d) has) does)))
   ]
 
-  pub table_free : (old new : State) (e : Error) → (IsTrue old.is_open → old.now.schema ≡ schema) → ExecutesInside 0 sql [] old new (Err e) → fault_of e ≢ Foreign
-  table_free old new e has = not_foreign old new sql [] e (λ live h. stored_free e (table_errors old new e (has live) h))
+  pub table_free : (old new : State) (e : Error) → (IsTrue old.is_open → old.now.schema ≡ schema) → ExecutesInside 0 sql [] old new (Err e) → IsFaultOf old new (fault_of e)
+  table_free old new e has = unless_refused old new sql [] e (λ live h. table_errors old new e (has live) h)
 
 -- ---- an index
 
@@ -165,7 +164,7 @@ module _ (schema : Schema) (sql : List ℕ) (at : ℕ) (table : Table) (index : 
       unmade_index (inl no_text) = no_text.0 (IsUtf8-from_is_utf8 sql sure.utf8)
       unmade_index (inr refused) = unrefused_index db refused.0 kept refused.1
 
-  index_errors : (old new : State) (e : Error) → old.now.schema ≡ schema → Keeps Unique schema old.now.trees → ExecutesInside 0 sql [] old new (Err e) → IsStoreError e
+  index_errors : (old new : State) (e : Error) → old.now.schema ≡ schema → Keeps Unique schema old.now.trees → ExecutesInside 0 sql [] old new (Err e) → IsFaultOf old new (fault_of e)
   index_errors old new e has kept h = elim (fails_as schema sql [] (CreateIndex at) sure.call old new has e h) [
     | inl store ↦ store
     | inr does ↦ absurd (undefined_index (mode_of old) old.now.trees e kept (on does))
@@ -181,5 +180,5 @@ module _ (schema : Schema) (sql : List ℕ) (at : ℕ) (table : Table) (index : 
           subst (λ t. Defines (mode_of old) (MakesIndex t (record { schema = schema; trees = old.now.trees }) table) (Err (Some e))) it.text found
 
   pub index_free : (old new : State) (e : Error) → (IsTrue old.is_open → old.now.schema ≡ schema) → (IsTrue old.is_open → Keeps Unique schema old.now.trees)
-      → ExecutesInside 0 sql [] old new (Err e) → fault_of e ≢ Foreign
-  index_free old new e has kept = not_foreign old new sql [] e (λ live h. stored_free e (index_errors old new e (has live) (kept live) h))
+      → ExecutesInside 0 sql [] old new (Err e) → IsFaultOf old new (fault_of e)
+  index_free old new e has kept = unless_refused old new sql [] e (λ live h. index_errors old new e (has live) (kept live) h)

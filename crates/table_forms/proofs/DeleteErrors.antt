@@ -24,9 +24,10 @@ use Rattle.sqlite_typing.specs.Types.{accepts_program}
 use Rattle.sqlite.specs.Listing.{understood}
 use Rattle.sqlite.specs.State.{State, mode_of, ExecutesInside}
 use Rattle.sqlite.proofs.Callers.{statement_of}
+use Rattle.table_forms.specs.Faults.{fault_of, IsFaultOf}
 use Rattle.table_forms.specs.Forms.{query_of}
 use Rattle.table_forms.proofs.DeleteLemmas.{DeletesRows}
-use Rattle.table_forms.proofs.ErrorLemmas.{IsStoreError, IsCallOf, HasNoReferences, fails_as, refused_by, same_stop, concludes_well}
+use Rattle.table_forms.proofs.ErrorLemmas.{IsCallOf, HasNoReferences, fails_as, refused_by, same_stop, concludes_well}
 
 abbrev pub rowids_of : ℕ → List Term → Program
 rowids_of tree tests = record { lets = []; body = query_of tree tests (col 1 0 ∷ []) [] }
@@ -57,7 +58,7 @@ module _ (task : Task) (db : Trees) (tests : List Term) (limit : task.limit ≡ 
 pub delete_errors : (schema : Schema) (sql : List ℕ) (at : ℕ) (table : Table) (tests : List Term) → DeletesRows schema sql at table tests → HasNoReferences schema
     → (old new : State) (params : Row) (e : Error) → IsCallOf schema sql params (Delete at (rowids_of table.tree tests)) → old.now.schema ≡ schema → old.step_limit ≡ None
     → accepts_program schema [] (query_of table.tree tests (col 1 0 ∷ []) []) params ≡ true → ExecutesInside 0 sql params old new (Err e)
-    → IsStoreError e ⊎ RefusesRemoval schema old.now.trees table e
+    → IsFaultOf old new (fault_of e) ⊎ RefusesRemoval schema old.now.trees table e
 delete_errors schema sql at table tests it none old new params e call has limit typed h = elim (fails_as schema sql params (Delete at (rowids_of table.tree tests)) call old new has e h) [ inl store ↦ inl store | inr does ↦ inr (go does) ]
   where
     command : Command

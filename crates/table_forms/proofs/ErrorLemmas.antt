@@ -28,7 +28,6 @@ use Rattle.sqlite_schema.specs.declared.schema.Keys.{Keys}
 use Rattle.sqlite_schema.specs.declared.schema.Keys.TheVariants.{Enforced}
 use Rattle.sqlite_resolve.specs.declared.compiled.Compiled.{Compiled}
 use Rattle.sqlite_resolve.specs.declared.error.CompileError.{CompileError}
-use Rattle.sqlite_trees.specs.declared.error.StoreError.{StoreError}
 use Rattle.sqlite.specs.declared.error.Error.{Error}
 use Rattle.sqlite.specs.Effect.{edit_error}
 use Rattle.sqlite.specs.Does.{Does, Concludes, AtPlace, OnRows}
@@ -36,13 +35,11 @@ use Rattle.sqlite.specs.Rows.{Written}
 use Rattle.sqlite.specs.Rowids.TheVariants.{Chosen}
 use Rattle.sqlite.specs.declared.run.Mode.{Mode}
 use Rattle.sqlite.specs.Listing.{understood}
-use Rattle.sqlite.specs.State.{State, mode_of, store_error, text_of, shows_rows, IsMisplaced, IsNotRun, ExecutesIn, ExecutesInside, EndsScope}
+use Rattle.sqlite.specs.State.{State, mode_of, text_of, shows_rows, IsMisplaced, IsNotRun, ExecutesIn, ExecutesInside, EndsScope}
+use Rattle.table_forms.specs.Faults.{fault_of, IsFaultOf}
+use Rattle.table_forms.proofs.FaultLemmas.{failed_fault}
 use Rattle.table_forms.proofs.InsertLemmas.{off}
 use Rattle.sqlite.proofs.Callers.{IsPlain, command_of, statement_of}
-
--- the store failed
-abbrev pub IsStoreError : Error → Type 0
-IsStoreError e = (cause : StoreError) × (e ≡ store_error cause)
 
 abbrev pub tail_of : Result Compiled CompileError → ℕ
 tail_of (Ok c) = c.tail
@@ -87,9 +84,9 @@ module _ (schema : Schema) (sql : List ℕ) (params : Row) (command : Command) (
   is_no : (other : Command) (c : Compiled) → understood old.now.schema sql ≡ Ok c → c.command ≡ other → IsRowWrite other
   is_no other c is same = subst IsRowWrite (sym (row_write c is) ∙ same) it.writes
 
-  is_run : (e : Error) → IsNotRun old new sql params e → IsStoreError e
+  is_run : (e : Error) → IsNotRun old new sql params e → IsFaultOf old new (fault_of e)
   unfolding IsNotRun
-  is_run e (inr fails) = (fails.0, fails.1)
+  is_run e (inr fails) = failed_fault old new _ e fails
   is_run e (inl (inl (fault, is, why), same)) = absurd (subst IsRowWrite (sym it.command_is ∙ ap command_of (known (Err fault) is)) it.writes)
   is_run e (inl (inr (c, is, inl (short, why)), same)) = absurd (short (subst (λ r. length sql ≤ tail_of r) (known (Ok c) is) it.whole))
   is_run e (inl (inr (c, is, inr (inl (count, why))), same)) = absurd (count (subst (λ r. length params ≡ width_of r) (known (Ok c) is) it.given))
@@ -105,8 +102,8 @@ module _ (schema : Schema) (sql : List ℕ) (params : Row) (command : Command) (
   abbrev DoesErr : Error → Type 0
   DoesErr e = Does old.step_limit (mode_of old) params old.now (statement_of sql (understood schema sql)) None command (Err (Some e))
 
-  ran : (e : Error) (c : Compiled) → understood old.now.schema sql ≡ Ok c → RunsCommand old new sql c params (Err e) → IsStoreError e ⊎ DoesErr e
-  ran e c is (inr fails) = inl (fails.0, fails.1)
+  ran : (e : Error) (c : Compiled) → understood old.now.schema sql ≡ Ok c → RunsCommand old new sql c params (Err e) → IsFaultOf old new (fault_of e) ⊎ DoesErr e
+  ran e c is (inr fails) = inl (failed_fault old new _ e fails)
   ran e c is (inl (inl wrong, same)) = absurd (misplaced e c is wrong)
   ran e c is (inl (inr (may, does), same)) =
       let bare = (subst IsPlain (known (Ok c) is) it.plain).0 in
@@ -115,7 +112,7 @@ module _ (schema : Schema) (sql : List ℕ) (params : Row) (command : Command) (
       (subst₂ (λ t r. Does old.step_limit (mode_of old) params old.now t r c.command (Err (Some e))) text bare does))
 
   -- the store failed, or the command refuses
-  pub fails_as : (e : Error) → ExecutesInside 0 sql params old new (Err e) → IsStoreError e ⊎ DoesErr e
+  pub fails_as : (e : Error) → ExecutesInside 0 sql params old new (Err e) → IsFaultOf old new (fault_of e) ⊎ DoesErr e
   unfolding ExecutesIn EndsScope
   fails_as e (inr ((c, st, inl (inl commits)), why, same)) = absurd (is_no Commit c st.is commits)
   fails_as e (inr ((c, st, inl (inr rolls)), why, same)) = absurd (is_no Rollback c st.is rolls)
@@ -179,7 +176,7 @@ concludes_well task mode w e none waits (inr (doubt, tested, inr (rows, shows, i
 pub insert_errors : (schema : Schema) (sql : List ℕ) (at : ℕ) (table : Table) (terms : List Term) → InsertsRow schema sql at table terms → HasNoReferences schema
     → (old new : State) (params : Row) (e : Error) → IsCallOf schema sql params (Insert at (Values terms (length terms))) → old.now.schema ≡ schema → old.step_limit ≡ None → accepts_terms terms params ≡ true
     → ExecutesInside 0 sql params old new (Err e)
-    → IsStoreError e ⊎ ((why : Refusal) × IsRefused schema Enforced old.now.trees (edit_of old.now.trees table [] Chosen 0 (eval_all terms (params ∷ []) ∷ [])) why × (e ≡ edit_error why))
+    → IsFaultOf old new (fault_of e) ⊎ ((why : Refusal) × IsRefused schema Enforced old.now.trees (edit_of old.now.trees table [] Chosen 0 (eval_all terms (params ∷ []) ∷ [])) why × (e ≡ edit_error why))
 insert_errors schema sql at table terms it none old new params e call has limit typed h = elim (fails_as schema sql params command call old new has e h) [ inl store ↦ inl store | inr does ↦ inr (go does) ]
   where
     command : Command

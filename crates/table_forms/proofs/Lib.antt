@@ -8,6 +8,7 @@ pub mod AnswerLemmas
 pub mod RowsInOrder
 pub mod RefusalLemmas
 pub mod ErrorLemmas
+pub mod FaultLemmas
 pub mod FailLemmas
 pub mod UniqueLemmas
 pub mod DeleteErrors

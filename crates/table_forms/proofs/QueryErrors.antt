@@ -1,5 +1,5 @@
 -- Why a query over one table fails.
-use Rattle.std.proofs.Common.{◌≡◌, ◌≢◌, ◌⊎◌, inl, inr, ℕ, ℤ, negsuc, List, [], append-nil, length, ◌≤◌, true, false, Option, Some, None, Ok, Err, Result, refl, sym, ap, subst, subst₂, ◌∙◌, true≢false}
+use Rattle.std.proofs.Common.{◌≡◌, ◌⊎◌, inl, inr, ℕ, ℤ, negsuc, List, [], append-nil, length, ◌≤◌, true, false, Option, Some, None, Ok, Err, Result, refl, sym, ap, subst, subst₂, ◌∙◌, true≢false}
 use Rattle.sqlite.specs.Order.{Row}
 use Rattle.sqlite.specs.Term.{Term}
 use Rattle.sqlite.specs.Schema.{Schema}
@@ -18,10 +18,9 @@ use Rattle.sqlite.specs.Clock.{timed}
 use Rattle.sqlite.specs.State.{State, FailsToQuery, FailsToShow, IsTooLate, IsNotRun}
 use Rattle.sqlite.proofs.Callers.{IsPlain, command_of}
 use Rattle.table_forms.specs.Forms.{page_of}
-use Rattle.table_forms.specs.Faults.{fault_of}
-use Rattle.base_faults.specs.declared.store_fault.StoreFault.TheVariants.{Foreign}
-use Rattle.table_forms.proofs.ErrorLemmas.{IsStoreError, tail_of, width_of}
-use Rattle.table_forms.proofs.FailLemmas.{stored_free}
+use Rattle.table_forms.specs.Faults.{fault_of, IsFaultOf}
+use Rattle.table_forms.proofs.ErrorLemmas.{tail_of, width_of}
+use Rattle.table_forms.proofs.FaultLemmas.{failed_fault}
 
 pub record IsPageOf (schema : Schema) (sql : List ℕ) (params : Row) (most : ℤ) (tree : ℕ) (tests shown : List Term) (order : List (Term × Key)) (names : List (List ℕ)) : Type 0 where
   pub command_is : command_of (understood schema sql) ≡ Select (record { lets = []; body = page_of most tree tests shown order }) names
@@ -39,9 +38,9 @@ module _ (schema : Schema) (sql : List ℕ) (params : Row) (most : ℤ) (tree : 
   known : (r : Result Compiled CompileError) → understood old.now.schema sql ≡ r → understood schema sql ≡ r
   known r is = sym (ap (λ s. understood s sql) has) ∙ is
 
-  is_run : (e : Error) → IsNotRun old new sql params e → IsStoreError e
+  is_run : (e : Error) → IsNotRun old new sql params e → IsFaultOf old new (fault_of e)
   unfolding IsNotRun
-  is_run e (inr fails) = (fails.0, fails.1)
+  is_run e (inr fails) = failed_fault old new _ e fails
   is_run e (inl (inl (fault, is, why), same)) = absurd (let no = sym it.command_is ∙ ap command_of (known (Err fault) is) in cc)
   is_run e (inl (inr (c, is, inl (short, why)), same)) = absurd (short (subst (λ r. length sql ≤ tail_of r) (known (Ok c) is) it.whole))
   is_run e (inl (inr (c, is, inr (inl (count, why))), same)) = absurd (count (subst (λ r. length params ≡ width_of r) (known (Ok c) is) it.given))
@@ -59,15 +58,15 @@ module _ (schema : Schema) (sql : List ℕ) (params : Row) (most : ℤ) (tree : 
       let db : h.0 ≡ old.now = subst (λ b. IsSourceOf b old.now h.0) (ap (λ s. reads_listing s sql) has ∙ it.unlisted) h.1 in
       reads e h.0 db (subst₂ (λ k ps. RefusesToRead old.step_limit k h.0 ps e) command all h.2)
 
-  pub page_free : (e : Error) → FailsToQuery sql params old new e ⊎ IsTooLate sql params old new e → fault_of e ≢ Foreign
+  pub page_free : (e : Error) → FailsToQuery sql params old new e ⊎ IsTooLate sql params old new e → IsFaultOf old new (fault_of e)
   unfolding FailsToQuery
   page_free e (inr late) = absurd (let none = (subst IsPlain (known (Ok late.0) late.1.is) it.plain).0 in let some = rw none at late.2 in cc)
-  page_free e (inl (inl not_run)) = stored_free e (is_run e not_run)
+  page_free e (inl (inl not_run)) = is_run e not_run
   page_free e (inl (inr (c, st, fails))) =
       let bare = subst IsPlain (known (Ok c) st.is) it.plain in
       let full : timed params c.formats st.now ≡ params = rw (bare.1, append-nil params) refl in
       absurd (shows e c _ c.returning bare.0 full (ap command_of (sym (known (Ok c) st.is)) ∙ it.command_is) fails)
 
 pub query_free : (schema : Schema) (sql : List ℕ) (params : Row) (tree : ℕ) (tests shown : List Term) (order : List (Term × Key)) (names : List (List ℕ)) → IsQueryOf schema sql params tree tests shown order names
-    → (old new : State) → old.now.schema ≡ schema → old.step_limit ≡ None → (e : Error) → FailsToQuery sql params old new e ⊎ IsTooLate sql params old new e → fault_of e ≢ Foreign
+    → (old new : State) → old.now.schema ≡ schema → old.step_limit ≡ None → (e : Error) → FailsToQuery sql params old new e ⊎ IsTooLate sql params old new e → IsFaultOf old new (fault_of e)
 query_free schema sql params tree tests shown order names it = page_free schema sql params (negsuc 0) tree tests shown order names it

@@ -1,5 +1,5 @@
 -- When a statement is refused for memory, the disk or its size alone.
-use Rattle.std.proofs.Common.{◌≡◌, ◌≢◌, inl, inr, ℕ, ℤ, List, [], ◌∷◌, drop, filter, Bool, true, false, not, ◌&&◌, length, nat_lt, None, Err, IsTrue, refl, sym, ap, ◌∙◌, true≢false}
+use Rattle.std.proofs.Common.{◌≡◌, inl, inr, ℕ, ℤ, List, [], ◌∷◌, drop, filter, Bool, true, false, not, ◌&&◌, length, nat_lt, None, Err, IsTrue, refl, sym, ap, ◌∙◌, true≢false}
 use Rattle.std.specs.List.{list_all}
 use Rattle.sqlite.specs.Order.{Row}
 use Rattle.sqlite.specs.Term.{Term, col, eval_all}
@@ -26,14 +26,15 @@ use Rattle.sqlite_rules.specs.declared.error.Refusal.{Refusal}
 use Rattle.sqlite_rules.specs.declared.error.Refusal.TheVariants.{Violates, Mismatch, NoRowid, BadReference, TooDeep}
 use Rattle.sqlite_trees.specs.Tree.{with_tree, IsAscending}
 use Rattle.sqlite_typing.specs.Types.{accepts_terms, accepts_program}
-use Rattle.base_faults.specs.declared.store_fault.StoreFault.TheVariants.{Foreign}
-use Rattle.table_forms.specs.Faults.{fault_of}
+use Rattle.base_faults.specs.declared.store_fault.StoreFault.TheVariants.{Memory}
+use Rattle.table_forms.specs.Faults.{fault_of, IsFaultOf}
 use Rattle.table_forms.specs.Forms.{inserted, query_of, passes as is_hit}
 use Rattle.table_forms.proofs.InsertLemmas.{InsertsRow}
 use Rattle.table_forms.proofs.DeleteLemmas.{DeletesRows}
 use Rattle.table_forms.proofs.ErrorLemmas.{IsCallOf, HasNoReferences, insert_errors}
 use Rattle.table_forms.proofs.DeleteErrors.{delete_errors, rowids_of}
-use Rattle.table_forms.proofs.FailLemmas.{stored_free, not_foreign}
+use Rattle.table_forms.proofs.FailLemmas.{unless_refused}
+use Rattle.table_forms.proofs.FaultLemmas.{memory_fault}
 use Rattle.table_forms.proofs.UniqueLemmas.{unique_more, unique_less, unique_changed}
 use Rattle.table_forms.proofs.UpdateErrors.{update_errors}
 use Rattle.table_forms.proofs.UpdateLemmas.{UpdatesRows, updating, update_edit}
@@ -60,28 +61,28 @@ none_clash indexes db table = never _ indexes
 -- ---- rows are removed
 
 module _ (schema : Schema) (table : Table) (plain : IsPlainTable schema table) (db : Trees) (unique : Keeps Unique schema db) (ids : List ℤ) where
-  removal_free : (why : Refusal) → IsRefused schema Enforced db (edit_of db table ids Given 0 []) why → fault_of (edit_error why) ≢ Foreign
-  removal_free (Violates Datatype) h e = true≢false h
-  removal_free (Violates NotNull) h e = true≢false h
-  removal_free (Violates Check) h e = true≢false h
-  removal_free (Violates PrimaryKey) h e = true≢false h
-  removal_free (Violates Unique) h e = h (unique_less schema db table plain.apart plain.listed unique ids (none_clash schema.indexes (with_tree db table.tree (without_all (db table.tree) ids)) table))
-  removal_free (Violates ForeignKey) h e = h
-  removal_free Mismatch h e = true≢false h
-  removal_free NoRowid h e = absurd cc
-  removal_free BadReference h e = true≢false (sym (plain.refers false (nat_lt 0 (length ids))) ∙ h)
-  removal_free TooDeep h e = h
+  removal_free : (why : Refusal) → IsRefused schema Enforced db (edit_of db table ids Given 0 []) why → fault_of (edit_error why) ≡ Memory
+  removal_free (Violates Datatype) h = absurd (true≢false h)
+  removal_free (Violates NotNull) h = absurd (true≢false h)
+  removal_free (Violates Check) h = absurd (true≢false h)
+  removal_free (Violates PrimaryKey) h = absurd (true≢false h)
+  removal_free (Violates Unique) h = absurd (h (unique_less schema db table plain.apart plain.listed unique ids (none_clash schema.indexes (with_tree db table.tree (without_all (db table.tree) ids)) table)))
+  removal_free (Violates ForeignKey) h = absurd h
+  removal_free Mismatch h = absurd (true≢false h)
+  removal_free NoRowid h = refl
+  removal_free BadReference h = absurd (true≢false (sym (plain.refers false (nat_lt 0 (length ids))) ∙ h))
+  removal_free TooDeep h = absurd h
 
 -- a DELETE over unique keys is never refused for what the tables hold
 pub delete_free : (schema : Schema) (sql : List ℕ) (at : ℕ) (table : Table) (tests : List Term) → DeletesRows schema sql at table tests → IsPlainTable schema table
     → (params : Row) → IsCallOf schema sql params (Delete at (rowids_of table.tree tests)) → accepts_program schema [] (query_of table.tree tests (col 1 0 ∷ []) []) params ≡ true
     → (old new : State) (e : Error) → old.step_limit ≡ None → (IsTrue old.is_open → old.now.schema ≡ schema) → (IsTrue old.is_open → Keeps Unique schema old.now.trees)
-    → ExecutesInside 0 sql params old new (Err e) → fault_of e ≢ Foreign
+    → ExecutesInside 0 sql params old new (Err e) → IsFaultOf old new (fault_of e)
 delete_free schema sql at table tests it plain params call typed old new e limit has unique =
-    not_foreign old new sql params e (λ live h.
+    unless_refused old new sql params e (λ live h.
     elim (delete_errors schema sql at table tests it plain.none old new params e call (has live) limit typed h) [
-      | inl store ↦ stored_free e store
-      | inr refused ↦ λ f. removal_free schema table plain old.now.trees (unique live) refused.0 refused.1 refused.2 (ap fault_of (sym refused.3) ∙ f)
+      | inl store ↦ store
+      | inr refused ↦ memory_fault old new (fault_of e) (ap fault_of refused.3 ∙ removal_free schema table plain old.now.trees (unique live) refused.0 refused.1 refused.2)
     ])
 
 -- ---- a row is added
@@ -95,17 +96,17 @@ pub record IsGoodRow (schema : Schema) (table : Table) (row : Row) : Type 0 wher
 
 module _ (schema : Schema) (table : Table) (plain : IsPlainTable schema table) (db : Trees) (unique : Keeps Unique schema db) (row : Row) (good : IsGoodRow schema table row)
     (untaken : is_taken (db table.tree) row ≡ false) (apart : are_unique schema.indexes (with_tree db table.tree (put_row row (db table.tree))) table (row ∷ []) ≡ true) where
-  adding_free : (why : Refusal) → IsRefused schema Enforced db (record { table = table; gone = []; news = row ∷ [] }) why → fault_of (edit_error why) ≢ Foreign
-  adding_free (Violates Datatype) h e = true≢false (sym (good.datatype db) ∙ h)
-  adding_free (Violates NotNull) h e = true≢false (sym (good.not_null db) ∙ h)
-  adding_free (Violates Check) h e = true≢false (sym (good.check db) ∙ h)
-  adding_free (Violates PrimaryKey) h e = absurd (let x = rw untaken at h in cc)
-  adding_free (Violates Unique) h e = h (unique_more schema db table plain.apart plain.listed unique row untaken apart)
-  adding_free (Violates ForeignKey) h e = h
-  adding_free Mismatch h e = absurd (let x = rw good.keyed at h in cc)
-  adding_free NoRowid h e = absurd cc
-  adding_free BadReference h e = true≢false (sym (plain.refers true false) ∙ h)
-  adding_free TooDeep h e = h
+  adding_free : (why : Refusal) → IsRefused schema Enforced db (record { table = table; gone = []; news = row ∷ [] }) why → fault_of (edit_error why) ≡ Memory
+  adding_free (Violates Datatype) h = absurd (true≢false (sym (good.datatype db) ∙ h))
+  adding_free (Violates NotNull) h = absurd (true≢false (sym (good.not_null db) ∙ h))
+  adding_free (Violates Check) h = absurd (true≢false (sym (good.check db) ∙ h))
+  adding_free (Violates PrimaryKey) h = absurd (let x = rw untaken at h in cc)
+  adding_free (Violates Unique) h = absurd (h (unique_more schema db table plain.apart plain.listed unique row untaken apart))
+  adding_free (Violates ForeignKey) h = absurd h
+  adding_free Mismatch h = absurd (let x = rw good.keyed at h in cc)
+  adding_free NoRowid h = refl
+  adding_free BadReference h = absurd (true≢false (sym (plain.refers true false) ∙ h))
+  adding_free TooDeep h = absurd h
 
 -- an INSERT of a good row, whose keys no row has, is never refused for what the tables hold
 pub insert_free : (schema : Schema) (sql : List ℕ) (at : ℕ) (table : Table) (terms : List Term) → InsertsRow schema sql at table terms → IsPlainTable schema table
@@ -114,12 +115,12 @@ pub insert_free : (schema : Schema) (sql : List ℕ) (at : ℕ) (table : Table) 
     → (IsTrue old.is_open → IsGoodRow schema table (inserted table (old.now.trees table.tree) terms params))
     → (IsTrue old.is_open → is_taken (old.now.trees table.tree) (inserted table (old.now.trees table.tree) terms params) ≡ false)
     → (IsTrue old.is_open → are_unique schema.indexes (with_tree old.now.trees table.tree (put_row (inserted table (old.now.trees table.tree) terms params) (old.now.trees table.tree))) table (inserted table (old.now.trees table.tree) terms params ∷ []) ≡ true)
-    → ExecutesInside 0 sql params old new (Err e) → fault_of e ≢ Foreign
+    → ExecutesInside 0 sql params old new (Err e) → IsFaultOf old new (fault_of e)
 insert_free schema sql at table terms it plain params call typed old new e limit has unique good untaken apart =
-    not_foreign old new sql params e (λ live h.
+    unless_refused old new sql params e (λ live h.
     elim (insert_errors schema sql at table terms it plain.none old new params e call (has live) limit typed h) [
-      | inl store ↦ stored_free e store
-      | inr refused ↦ λ f. adding_free schema table plain old.now.trees (unique live) (inserted table (old.now.trees table.tree) terms params) (good live) (untaken live) (apart live) refused.0 refused.1 (ap fault_of (sym refused.2) ∙ f)
+      | inl store ↦ store
+      | inr refused ↦ memory_fault old new (fault_of e) (ap fault_of refused.2 ∙ adding_free schema table plain old.now.trees (unique live) (inserted table (old.now.trees table.tree) terms params) (good live) (untaken live) (apart live) refused.0 refused.1)
     ])
 
 -- ---- a row gets other cells
@@ -145,28 +146,28 @@ pub record ChangesWell (schema : Schema) (table : Table) (tests terms : List Ter
 module _ (schema : Schema) (table : Table) (plain : IsPlainTable schema table) (db : Trees) (unique : Keeps Unique schema db) (cells : Row) (good : IsGoodRow schema table (changed_row table cells))
     (untaken : is_taken (left_rows db table cells) (changed_row table cells) ≡ false)
     (apart : are_unique schema.indexes (with_tree db table.tree (put_row (changed_row table cells) (left_rows db table cells))) table (changed_row table cells ∷ []) ≡ true) where
-  changing_free : (why : Refusal) → IsRefused schema Enforced db (update_edit db table cells) why → fault_of (edit_error why) ≢ Foreign
-  changing_free (Violates Datatype) h e = true≢false (sym (good.datatype db) ∙ h)
-  changing_free (Violates NotNull) h e = true≢false (sym (good.not_null db) ∙ h)
-  changing_free (Violates Check) h e = true≢false (sym (good.check db) ∙ h)
-  changing_free (Violates PrimaryKey) h e = absurd (let x = rw untaken at h in cc)
-  changing_free (Violates Unique) h e = h (unique_changed schema db table plain.apart plain.listed unique (ids_of (cells ∷ [])) (changed_row table cells) untaken apart)
-  changing_free (Violates ForeignKey) h e = h
-  changing_free Mismatch h e = absurd (let x = rw good.keyed at h in cc)
-  changing_free NoRowid h e = absurd cc
-  changing_free BadReference h e = true≢false (sym (plain.refers true true) ∙ h)
-  changing_free TooDeep h e = h
+  changing_free : (why : Refusal) → IsRefused schema Enforced db (update_edit db table cells) why → fault_of (edit_error why) ≡ Memory
+  changing_free (Violates Datatype) h = absurd (true≢false (sym (good.datatype db) ∙ h))
+  changing_free (Violates NotNull) h = absurd (true≢false (sym (good.not_null db) ∙ h))
+  changing_free (Violates Check) h = absurd (true≢false (sym (good.check db) ∙ h))
+  changing_free (Violates PrimaryKey) h = absurd (let x = rw untaken at h in cc)
+  changing_free (Violates Unique) h = absurd (h (unique_changed schema db table plain.apart plain.listed unique (ids_of (cells ∷ [])) (changed_row table cells) untaken apart))
+  changing_free (Violates ForeignKey) h = absurd h
+  changing_free Mismatch h = absurd (let x = rw good.keyed at h in cc)
+  changing_free NoRowid h = refl
+  changing_free BadReference h = absurd (true≢false (sym (plain.refers true true) ∙ h))
+  changing_free TooDeep h = absurd h
 
 -- an UPDATE of one row to a good one, whose keys no other row has, is never refused for what the
 -- tables hold
 pub update_free : (schema : Schema) (sql : List ℕ) (at : ℕ) (table : Table) (tests terms : List Term) → UpdatesRows schema sql at table tests terms → IsPlainTable schema table
     → (params : Row) → IsCallOf schema sql params (Update at (updating table tests terms)) → accepts_program schema [] (query_of table.tree tests terms []) params ≡ true
     → (old new : State) (e : Error) → old.step_limit ≡ None → (IsTrue old.is_open → old.now.schema ≡ schema) → (IsTrue old.is_open → Keeps Unique schema old.now.trees)
-    → (IsTrue old.is_open → ChangesWell schema table tests terms params old.now.trees) → ExecutesInside 0 sql params old new (Err e) → fault_of e ≢ Foreign
+    → (IsTrue old.is_open → ChangesWell schema table tests terms params old.now.trees) → ExecutesInside 0 sql params old new (Err e) → IsFaultOf old new (fault_of e)
 update_free schema sql at table tests terms it plain params call typed old new e limit has unique well =
-    not_foreign old new sql params e (λ live h.
+    unless_refused old new sql params e (λ live h.
     let w = well live in
     elim (update_errors schema sql at table tests terms it plain.none old new params w.row e call (has live) limit w.one typed h) [
-      | inl store ↦ stored_free e store
-      | inr refused ↦ λ f. changing_free schema table plain old.now.trees (unique live) (eval_all terms (params ∷ w.row ∷ [])) w.good w.untaken w.apart refused.0 refused.1 (ap fault_of (sym refused.2) ∙ f)
+      | inl store ↦ store
+      | inr refused ↦ memory_fault old new (fault_of e) (ap fault_of refused.2 ∙ changing_free schema table plain old.now.trees (unique live) (eval_all terms (params ∷ w.row ∷ [])) w.good w.untaken w.apart refused.0 refused.1)
     ])

@@ -24,10 +24,11 @@ use Rattle.sqlite_typing.specs.Types.{accepts_program}
 use Rattle.sqlite.specs.Listing.{understood}
 use Rattle.sqlite.specs.State.{State, mode_of, ExecutesInside}
 use Rattle.sqlite.proofs.Callers.{statement_of}
+use Rattle.table_forms.specs.Faults.{fault_of, IsFaultOf}
 use Rattle.table_forms.specs.Forms.{query_of, passes}
 use Rattle.table_forms.proofs.QueryLemmas.{finds, found}
 use Rattle.table_forms.proofs.UpdateLemmas.{UpdatesRows, updating, update_edit}
-use Rattle.table_forms.proofs.ErrorLemmas.{IsStoreError, IsCallOf, HasNoReferences, fails_as, refused_by, same_stop, concludes_well}
+use Rattle.table_forms.proofs.ErrorLemmas.{IsCallOf, HasNoReferences, fails_as, refused_by, same_stop, concludes_well}
 use Rattle.std.proofs.Common.{filter, map}
 use Rattle.std.specs.List.Sorted.{IsPermutation}
 use Rattle.sqlite.specs.Effect.{Answers}
@@ -80,7 +81,7 @@ pub update_errors : (schema : Schema) (sql : List ℕ) (at : ℕ) (table : Table
     → HasNoReferences schema → (old new : State) (params row : Row) (e : Error) → IsCallOf schema sql params (Update at (updating table tests terms))
     → old.now.schema ≡ schema → old.step_limit ≡ None → filter (passes tests params) (old.now.trees table.tree) ≡ row ∷ []
     → accepts_program schema [] (query_of table.tree tests terms []) params ≡ true → ExecutesInside 0 sql params old new (Err e)
-    → IsStoreError e ⊎ RefusesUpdate schema old.now.trees table (eval_all terms (params ∷ row ∷ [])) e
+    → IsFaultOf old new (fault_of e) ⊎ RefusesUpdate schema old.now.trees table (eval_all terms (params ∷ row ∷ [])) e
 update_errors schema sql at table tests terms it none old new params row e call has limit one typed h =
     elim (fails_as schema sql params (Update at (updating table tests terms)) call old new has e h) [ inl store ↦ inl store | inr does ↦ inr (go does) ]
   where

@@ -1,6 +1,6 @@
 -- What one text that makes a table or an index comes to, and several of them.
 use Rattle.table_history.proofs.Imports.{IsBlank, Builds, HasRun, IsBuilt, no_tables}
-use Rattle.table_schema.proofs.Exports.{◌≡◌, ◌≢◌, ◌≤◌, inl, inr, ℕ, ◌+◌, ◌^◌, List, [], ◌∷◌, ◌++◌, length, codes, true, false, Some, slice_get, None, Result, Ok, Err, IfOk, IsTrue, refl, sym, ap, subst, ◌∙◌, arith, AllByRecursion, is_utf8, created, indexed, next_tree, is_used, is_reserved, automatics, CreateTable, CreateIndex, table_defined_by, index_defined_by, understood, Text, IsPlain, command_of, statement_of, Row, Schema, Table, Trees, State, IsLive, HasCleanDisk, KeepsCommit, Survives, ExecutesInside, Error, survives_then, Keeps, table_reals, index_reals, Index, StoreFault, Foreign, fault_of, written, tail_of, width_of, IsSureTable, IsSureIndex, table_free, index_free, CreatesTable, CreatesIndex, creates, creates_index, still_rows, Held, state, Ghosts}
+use Rattle.table_schema.proofs.Exports.{◌≡◌, ◌≤◌, inl, inr, ℕ, ◌+◌, ◌^◌, List, [], ◌∷◌, ◌++◌, length, codes, true, false, Some, slice_get, None, Result, Ok, Err, IfOk, IsTrue, refl, sym, ap, subst, ◌∙◌, arith, AllByRecursion, is_utf8, created, indexed, next_tree, is_used, is_reserved, automatics, CreateTable, CreateIndex, table_defined_by, index_defined_by, understood, Text, IsPlain, command_of, statement_of, Row, Schema, Table, Trees, State, IsLive, HasCleanDisk, KeepsCommit, Survives, ExecutesInside, Error, survives_then, Keeps, table_reals, index_reals, Index, StoreFault, IsFaultOf, faults_later, fault_of, written, tail_of, width_of, IsSureTable, IsSureIndex, table_free, index_free, CreatesTable, CreatesIndex, creates, creates_index, still_rows, Held, state, Ghosts}
 use Rattle.std.proofs.Math.Dec.{leb}
 use Rattle.sqlite.specs.Does.{lacks_sequence}
 use Rattle.sqlite_catalog.specs.Listing.{is_fit, is_formed}
@@ -13,7 +13,7 @@ use Rattle.sqlite_schema.specs.declared.schema.Constraint.TheVariants.{Unique}
 pub record IsMaking (sql : List ℕ) (params : Row) (Before After : State → Type 0) : Type 1 where
   pub begun : (s : State) → Before s → IsTrue s.in_transaction
   pub makes : (old new : State) (count : ℕ) → Before old → new.step_limit ≡ old.step_limit → ExecutesInside 0 sql params old new (Ok count) → After new
-  pub free : (old new : State) (e : Error) → Before old → ExecutesInside 0 sql params old new (Err e) → fault_of e ≢ Foreign
+  pub free : (old new : State) (e : Error) → Before old → ExecutesInside 0 sql params old new (Err e) → IsFaultOf old new (fault_of e)
 
 kept : (sql : List ℕ) (params : Row) (old new : State) (e : Error) → ExecutesInside 0 sql params old new (Err e) → KeepsCommit old new
 kept sql params old new e (inl (h, inl same)) = record { was_open = λ _. same.0.was_open; committed = λ _. same.0.committed_is }
@@ -27,14 +27,14 @@ builds_write sql params Before After it old new (Ok count) survives runs = recor
   keeps = λ clean inside. let h = runs clean inside in record { was_open = λ _. h.1.was_open; committed = λ _. h.1.committed_is };
   goes_on = λ clean inside. (runs clean inside).1.mode;
   ok = λ clean before. let h = runs clean (it.begun old before) in (h.1.was_open, h.1.is_open, it.makes old new count before survives.limit h);
-  sure = λ clean before. tt;
+  cause = λ clean before. tt;
 }
 builds_write sql params Before After it old new (Err e) survives runs = record {
   survives = survives;
   keeps = λ clean inside. kept sql params old new e (runs clean inside);
   goes_on = λ clean inside. tt;
   ok = λ clean before. tt;
-  sure = λ clean before. it.free old new e before (runs clean (it.begun old before));
+  cause = λ clean before. it.free old new e before (runs clean (it.begun old before));
 }
 
 pub builds_run : (sql : List ℕ) (Before After : State → Type 0) → IsMaking sql [] Before After → (old new : State) (r : Result (Unit {0}) StoreFault) → HasRun sql old new r → Builds Before After old new r
@@ -51,7 +51,7 @@ module _ (P Q R : State → Type 0) (old mid new : State) where
     keeps = λ clean inside. keeps_then old mid new (one.keeps (early clean) inside) (two.keeps clean (one.goes_on (early clean) inside));
     goes_on = λ clean inside. two.goes_on clean (one.goes_on (early clean) inside);
     ok = λ clean before. goes r (one.ok (early clean) before).0 (two.ok clean (went clean before));
-    sure = λ clean before. two.sure clean (went clean before);
+    cause = λ clean before. faults_later old mid new _ _ one.survives two.survives (early clean) r (two.cause clean (went clean before));
   }
     where
       early : HasCleanDisk new → HasCleanDisk mid
@@ -66,7 +66,7 @@ module _ (P Q R : State → Type 0) (old mid new : State) where
 
 -- the call failed, and with it all
 pub builds_stop : (P Q R : State → Type 0) (old new : State) (fault : StoreFault) → Builds P Q old new (Err fault) → Builds P R old new (Err fault)
-builds_stop P Q R old new fault h = record { survives = h.survives; keeps = h.keeps; goes_on = λ clean inside. tt; ok = λ clean before. tt; sure = h.sure }
+builds_stop P Q R old new fault h = record { survives = h.survives; keeps = h.keeps; goes_on = λ clean inside. tt; ok = λ clean before. tt; cause = h.cause }
 
 -- what held before is what another says, and so is what holds after
 pub builds_as : (P Q P' Q' : State → Type 0) (old new : State) (r : Result (Unit {0}) StoreFault) → (P' old → P old) → (P' old → IsTrue old.is_open → Q new → Q' new)
@@ -76,7 +76,7 @@ builds_as P Q P' Q' old new r before after h = record {
   keeps = h.keeps;
   goes_on = h.goes_on;
   ok = λ clean was. goes r was (h.ok clean (before was));
-  sure = λ clean was. h.sure clean (before was);
+  cause = λ clean was. h.cause clean (before was);
 }
   where
     goes : (r : Result (Unit {0}) StoreFault) → P' old → IfOk r (λ _. IsTrue old.is_open × IsTrue new.is_open × Q new) → IfOk r (λ _. IsTrue old.is_open × IsTrue new.is_open × Q' new)

@@ -1,7 +1,7 @@
 -- What is written of the row of meta: the row of a new desk, in tables with no row, and the number
 -- of the newest schema, in tables that are carried over to it.
 use Rattle.table_history.proofs.Imports.{IsDeskOf, no_rows, numbered_cells, IsBuilt, AreNumbered, Compare}
-use Rattle.table_schema.proofs.Exports.{◌≡◌, ◌≢◌, ℕ, pos, List, [], ◌∷◌, codes, false, Ok, Err, refl, sym, subst, ◌∙◌, arith, filter, cond, true, IsTrue, ap, ⊤, AllByRecursion, Insert, Update, is_taken, understood, Row, Values, State, ExecutesInside, Term, lit, col, op2, eval_all, Trees, put_row, Error, Null, Int, everything, with_tree, Foreign, fault_of, Changes, inserted, passes, IsCallOf, InsertsRow, inserts, IsGoodRow, insert_free, ChangesWell, changed_row, update_free, no_content, Content, META, meta_table, desk_schema, meta_cells, content_of, AreShown, cast_int, cast_null, AreSame, same_content, remade, same_shown, meta_plain, Binary, hits, same_number, UpdatesRows, updating, update_edit, updates_one}
+use Rattle.table_schema.proofs.Exports.{◌≡◌, ℕ, pos, List, [], ◌∷◌, codes, false, Ok, Err, refl, sym, subst, ◌∙◌, arith, filter, cond, true, IsTrue, ap, ⊤, AllByRecursion, Insert, Update, is_taken, understood, Row, Values, State, ExecutesInside, Term, lit, col, op2, eval_all, Trees, put_row, Error, Null, Int, everything, with_tree, IsFaultOf, fault_of, Changes, inserted, passes, IsCallOf, InsertsRow, inserts, IsGoodRow, insert_free, ChangesWell, changed_row, update_free, no_content, Content, META, meta_table, desk_schema, meta_cells, content_of, AreShown, cast_int, cast_null, AreSame, same_content, remade, same_shown, meta_plain, Binary, hits, same_number, UpdatesRows, updating, update_edit, updates_one}
 use Rattle.sqlite.specs.Edit.{edited}
 use Rattle.table_forms.specs.TypedRows.{AreRows}
 use Rattle.table_history.proofs.BuildLemmas.{IsMaking, unique_in}
@@ -77,7 +77,7 @@ puts first old new count was limit h =
 good_row : (first : ℕ) → IsGoodRow desk_schema meta_table (meta_cells first)
 good_row first = record { datatype = λ db. refl; not_null = λ db. refl; check = λ db. refl; keyed = refl }
 
-put_free : (first : ℕ) (old new : State) (e : Error) → IsBuilt ⊤ no_rows desk_schema old → ExecutesInside 0 put_text (params_of first) old new (Err e) → fault_of e ≢ Foreign
+put_free : (first : ℕ) (old new : State) (e : Error) → IsBuilt ⊤ no_rows desk_schema old → ExecutesInside 0 put_text (params_of first) old new (Err e) → IsFaultOf old new (fault_of e)
 put_free first old new e was =
     insert_free desk_schema put_text 0 meta_table put_terms puts_row meta_plain (params_of first) (put_call first) refl old new e was.unlimited was.schema_is (unique_in ⊤ no_rows desk_schema old was)
     (λ live. subst (IsGoodRow desk_schema meta_table) (sym (put_row_is rows first)) (good_row first))
@@ -165,7 +165,7 @@ module _ (k : ℕ) (c : Content) (rows : Trees) where
     apart = refl;
   }
 
-  free : (old new : State) (error : Error) → Before old → ExecutesInside 0 number_set_text [] old new (Err error) → fault_of error ≢ Foreign
+  free : (old new : State) (error : Error) → Before old → ExecutesInside 0 number_set_text [] old new (Err error) → IsFaultOf old new (fault_of error)
   free old new error was =
       update_free desk_schema number_set_text 0 meta_table first_row terms updates_row meta_plain [] set_call refl old new error was.unlimited was.schema_is
       (unique_in (AreNumbered k c rows) rows desk_schema old was) (λ live. goes_well old.now.trees (meta_is old was live))

@@ -1,6 +1,6 @@
 -- What the call that asks for the number answers, over any database.
 use Rattle.table_history.proofs.Imports.{number_text, IsAnswer, IsRefused, ReadsRows, unless_foreign}
-use Rattle.table_schema.proofs.Exports.{◌≡◌, ◌⊎◌, inl, inr, ℕ, List, [], length, Option, Some, None, Result, Ok, Err, IfOk, IfErr, refl, sym, ap, subst, subst₂, ◌∙◌, Select, compiled, Database, Reads, RefusesToRead, RefusesQuery, Answers, understood, reads_listing, IsSourceOf, Row, State, HasCleanDisk, KeepsCommit, Survives, Shown, ShowsRows, IsUnchanged, IsRolledBack, FailsToQuery, FailsToShow, IsTooLate, IsNotRun, Error, Compiled, Returning, StoreFault, Memory, Device, Full, Foreign, fault_of, IsStoreError, stored_free}
+use Rattle.table_schema.proofs.Exports.{◌≡◌, ◌≢◌, ◌⊎◌, inl, inr, ℕ, List, [], length, Option, Some, None, Result, Ok, Err, IfOk, IfErr, refl, sym, ap, subst, subst₂, ◌∙◌, Select, compiled, Database, Reads, RefusesToRead, RefusesQuery, Answers, understood, reads_listing, IsSourceOf, Row, State, HasCleanDisk, KeepsCommit, Survives, Shown, ShowsRows, IsUnchanged, IsRolledBack, FailsToQuery, FailsToShow, IsTooLate, IsNotRun, Error, Compiled, Returning, StoreFault, Memory, Device, Full, Foreign, IsFaultOf, fault_of, failed_fault}
 use Rattle.sqlite.specs.Clock.{timed}
 use Rattle.table_forms.specs.Faults.{told}
 use Rattle.table_history.proofs.NumberText.{IsQuery, always_query, is_compiled, reads_tables}
@@ -39,9 +39,9 @@ module _ (old new : State) where
 
   -- ---- a refusal
 
-  unrun : (e : Error) → IsNotRun old new number_text [] e → IsStoreError e ⊎ (IsUnchanged old new × IsRefused old.now)
+  unrun : (e : Error) → IsNotRun old new number_text [] e → IsFaultOf old new (fault_of e) ⊎ (IsUnchanged old new × IsRefused old.now)
   unfolding IsNotRun
-  unrun e (inr fails) = inl (fails.0, fails.1)
+  unrun e (inr fails) = inl (failed_fault old new _ e fails)
   unrun e (inl (inl (fault, is, why), same)) = inr (same, inl (fault, sym (is_compiled old.now.schema) ∙ is))
   unrun e (inl (inr (c, is, inl (short, why)), same)) = absurd (short (asked c is).whole)
   unrun e (inl (inr (c, is, inr (inl (count, why))), same)) = absurd (count (sym (ap length (asked c is).unnamed)))
@@ -55,7 +55,7 @@ module _ (old new : State) where
       let refused = subst₂ (λ k d. RefusesToRead old.step_limit k d full e) (command_is c q) db h.2 in
       (h.3, inr (q.query, q.asks, e, subst₂ (λ params steps. RefusesQuery steps old.now q.query params e) bound limit refused))
 
-  pub refuses : (e : Error) → old.step_limit ≡ None → FailsToQuery number_text [] old new e ⊎ IsTooLate number_text [] old new e → IsStoreError e ⊎ (IsUnchanged old new × IsRefused old.now)
+  pub refuses : (e : Error) → old.step_limit ≡ None → FailsToQuery number_text [] old new e ⊎ IsTooLate number_text [] old new e → IsFaultOf old new (fault_of e) ⊎ (IsUnchanged old new × IsRefused old.now)
   unfolding FailsToQuery
   refuses e limit (inr late) = absurd (let none = (asked late.0 late.1.is).bare in let some = rw none at late.2 in cc)
   refuses e limit (inl (inl not_run)) = unrun e not_run
@@ -86,7 +86,36 @@ module _ (old new : State) where
   -- ---- the call
 
   foreign : (e : Error) → old.step_limit ≡ None → fault_of e ≡ Foreign → FailsToQuery number_text [] old new e ⊎ IsTooLate number_text [] old new e → IsUnchanged old new × IsRefused old.now
-  foreign e limit told h = elim (refuses e limit h) [ inl store ↦ absurd (stored_free e store told) | inr refused ↦ refused ]
+  foreign e limit told h = elim (refuses e limit h) [ inl store ↦ absurd (subst (IsFaultOf old new) told store) | inr refused ↦ refused ]
+
+  -- ---- why it fails
+
+  unread : (e : Error) (c : Compiled) (q : IsQuery old.now.schema c) (full : Row) (r : Option Returning) → r ≡ None → FailsToShow old new number_text c full e r → fault_of e ≡ Foreign
+  unread e c q full (Some what) bare h = absurd (let no = bare in cc)
+  unread e c q full None bare h = told (subst (λ k. RefusesToRead old.step_limit k h.0 full e) (command_is c q) h.2)
+    where
+      told : RefusesQuery old.step_limit h.0 q.query full e → fault_of e ≡ Foreign
+      told (inl (why, typed)) = ap fault_of why
+      told (inr (inl (why, sums))) = ap fault_of why
+      told (inr (inr (why, some))) = ap fault_of why
+
+  unasked : (e : Error) → IsNotRun old new number_text [] e → IsFaultOf old new (fault_of e) ⊎ (fault_of e ≡ Foreign)
+  unfolding IsNotRun
+  unasked e (inr fails) = inl (failed_fault old new _ e fails)
+  unasked e (inl (inl (fault, is, why), same)) = inr (ap fault_of why)
+  unasked e (inl (inr (c, is, inl (short, why)), same)) = inr (ap fault_of why)
+  unasked e (inl (inr (c, is, inr (inl (count, why))), same)) = inr (ap fault_of why)
+  unasked e (inl (inr (c, is, inr (inr (time, why))), same)) = inr (ap fault_of why)
+
+  -- the store failed, or the database refuses
+  told_as : (e : Error) → FailsToQuery number_text [] old new e ⊎ IsTooLate number_text [] old new e → IsFaultOf old new (fault_of e) ⊎ (fault_of e ≡ Foreign)
+  unfolding FailsToQuery
+  told_as e (inr late) = inr (ap fault_of late.4)
+  told_as e (inl (inl not_run)) = unasked e not_run
+  told_as e (inl (inr (c, st, fails))) = let q = asked c st.is in inr (unread e c q (timed [] c.formats st.now) c.returning q.bare fails)
+
+  caused : (e : Error) (f : StoreFault) → fault_of e ≡ f → f ≢ Foreign → FailsToQuery number_text [] old new e ⊎ IsTooLate number_text [] old new e → IsFaultOf old new f
+  caused e f is other h = elim (told_as e h) [ inl store ↦ subst (IsFaultOf old new) is store | inr foreign ↦ absurd (other (sym is ∙ foreign)) ]
 
   module _ {A : Type 0} (items : A → List Row) (survives : Survives old new (λ _. ⊥)) where
     failed : (e : Error) (f : StoreFault) → fault_of e ≡ f → (HasCleanDisk new → FailsToQuery number_text [] old new e ⊎ IsTooLate number_text [] old new e) → ReadsRows items old new (unless_foreign (Err f))
@@ -96,10 +125,11 @@ module _ (old new : State) where
       some = λ clean rows same. absurd (let no = same in cc);
       none = λ clean limit same. foreign e limit is (h clean);
       sure = tt;
+      cause = λ clean. tt;
     }
-    failed e Memory is h = record { survives = survives; keeps = λ clean. fails_kept e (h clean); some = λ clean. tt; none = λ clean limit. tt; sure = λ same. cc }
-    failed e Device is h = record { survives = survives; keeps = λ clean. fails_kept e (h clean); some = λ clean. tt; none = λ clean limit. tt; sure = λ same. cc }
-    failed e Full is h = record { survives = survives; keeps = λ clean. fails_kept e (h clean); some = λ clean. tt; none = λ clean limit. tt; sure = λ same. cc }
+    failed e Memory is h = record { survives = survives; keeps = λ clean. fails_kept e (h clean); some = λ clean. tt; none = λ clean limit. tt; sure = λ same. cc; cause = λ clean. caused e Memory is (λ same. cc) (h clean) }
+    failed e Device is h = record { survives = survives; keeps = λ clean. fails_kept e (h clean); some = λ clean. tt; none = λ clean limit. tt; sure = λ same. cc; cause = λ clean. caused e Device is (λ same. cc) (h clean) }
+    failed e Full is h = record { survives = survives; keeps = λ clean. fails_kept e (h clean); some = λ clean. tt; none = λ clean limit. tt; sure = λ same. cc; cause = λ clean. caused e Full is (λ same. cc) (h clean) }
 
     pub reads_rows : (r : Result A Error) → (HasCleanDisk new → IfOk r (λ rows. Shown number_text [] old new (items rows)))
         → (HasCleanDisk new → IfErr r (λ e. FailsToQuery number_text [] old new e ⊎ IsTooLate number_text [] old new e)) → ReadsRows items old new (unless_foreign (told r))
@@ -109,5 +139,6 @@ module _ (old new : State) where
       some = λ clean found same. let is : rows ≡ found = cc in subst (λ x. IsUnchanged old new × IsAnswer old.now (items x)) is (answers (items rows) (ok clean));
       none = λ clean limit same. absurd (let no = same in cc);
       sure = tt;
+      cause = λ clean. tt;
     }
     reads_rows (Err e) ok err = failed e (fault_of e) refl err

@@ -1,7 +1,7 @@
 -- What a database says of the number of its schema: the tables of a desk say theirs, one without
 -- views says one thing, and that is what the rows of an answer say.
 use Rattle.table_history.proofs.Imports.{Compare, Step, history, schema_at, IsUnder, numbered_cells, number_text, Asks, IsAnswer, IsRefused, Says, AreNumber, SaysSchema, SaysNone, ReadsSchema, IsSaid, ReadsRows}
-use Rattle.table_schema.proofs.Exports.{◌≡◌, ◌<◌, inl, inr, ℕ, zero, suc, pos, drop, List, [], ◌∷◌, codes, true, None, Ok, Err, IsTrue, map, filter, refl, sym, ap, subst, ◌∙◌, true≢false, arith, negsuc, false, ◌≢◌, Some, Result, IfOk, IfErr, IsPermutation, command_of, one_permutation, Select, compiled, Answers, RefusesQuery, Database, binary, Row, value_cmp, Schema, State, IsUnchanged, Term, lit, col, op2, eval_all, Error, Int, Null, Program, everything, accepts_program, Binary, query_of, passes, number_row, finds, found, Content, META, first_schema, IsPermutation-map, IsPermutation-sym, Query, end, inner, matches_as, Output, output, StoreFault, Foreign}
+use Rattle.table_schema.proofs.Exports.{◌≡◌, ◌<◌, inl, inr, ℕ, zero, suc, pos, drop, List, [], ◌∷◌, codes, true, None, Ok, Err, IsTrue, map, filter, refl, sym, ap, subst, ◌∙◌, true≢false, arith, negsuc, false, ◌≢◌, Some, Result, IfOk, IfErr, IsPermutation, command_of, one_permutation, Select, compiled, Answers, RefusesQuery, Database, binary, Row, value_cmp, Schema, State, IsUnchanged, Term, lit, col, op2, eval_all, Error, Int, Null, Program, everything, accepts_program, Binary, query_of, passes, number_row, finds, found, Content, META, first_schema, IsPermutation-map, IsPermutation-sym, Query, end, inner, matches_as, Output, output, StoreFault, Foreign, Memory, fault_of, memory_faults}
 use Rattle.sqlite.specs.Program.{overlay}
 use Rattle.sqlite_rules.proofs.ListLemmas.{any_has}
 use Rattle.sqlite_sql.specs.declared.ops.CompareOp.TheVariants.{Eq}
@@ -11,6 +11,8 @@ use Rattle.table_history.proofs.StepLemmas.{AfterEach, after_any}
 use Rattle.sqlite.specs.Query.{IsAnswer as IsQueryAnswer}
 use Rattle.table_history.proofs.NumberText.{asks_plain, asks_one}
 use Rattle.table_history.proofs.PlainSelect.{IsPlainQuery}
+use Rattle.sqlite.specs.Reading.{IsReadError}
+use Rattle.sqlite.specs.declared.types.Value.{Value}
 
 -- ---- the tables of a desk
 
@@ -149,6 +151,16 @@ module _ (db : Database) (none : db.schema.views ≡ []) where
   says_one NoNumber (Number m) one two = absurd (never_none m two one)
   says_one NoNumber NoNumber one two = refl
 
+-- ---- an error of a cell
+
+-- one that is told as no foreign fault is want of memory
+pub read_fault : (at : ℕ) (v : Value) (e : Error) → IsReadError at v e → fault_of e ≢ Foreign → fault_of e ≡ Memory
+read_fault at v e (inl is) other = absurd (other (ap fault_of is))
+read_fault at v e (inr (inl is)) other = absurd (other (ap fault_of is))
+read_fault at v e (inr (inr (inl is))) other = absurd (other (ap fault_of is))
+read_fault at v e (inr (inr (inr (inl is)))) other = absurd (other (ap fault_of is))
+read_fault at v e (inr (inr (inr (inr is)))) other = ap fault_of is
+
 -- ---- the rows of an answer
 
 says : (db : Database) (rows : List Row) (read : SchemaRead) → IsAnswer db rows → IsSaid rows read → Says db read
@@ -175,19 +187,21 @@ module _ {A : Type 0} (items : A → List Row) (old new : State) where
     keeps = one.keeps;
     ok = λ clean limit. let h = one.none clean limit refl in (h.0, inl h.1);
     sure = tt;
+    cause = λ clean. tt;
     only = λ clean limit none. let h = one.none clean limit refl in only (Ok NoNumber) none (h.0, inl h.1);
     under = λ k c clean is. let h = one.none clean is.unlimited refl in under k c (Ok NoNumber) is (h.0, inl h.1);
   }
 
   pub stopped : (fault : StoreFault) → ReadsRows items old new (Err fault) → ReadsSchema old new (Err fault)
-  stopped fault one = record { survives = one.survives; keeps = one.keeps; ok = λ clean limit. tt; sure = one.sure; only = λ clean limit none. tt; under = λ k c clean is. tt }
+  stopped fault one = record { survives = one.survives; keeps = one.keeps; ok = λ clean limit. tt; sure = one.sure; cause = one.cause; only = λ clean limit none. tt; under = λ k c clean is. tt }
 
-  pub from_rows : (rows : A) (r : Result SchemaRead StoreFault) → ReadsRows items old new (Ok (Some rows)) → IfOk r (IsSaid (items rows)) → IfErr r (λ fault. fault ≢ Foreign) → ReadsSchema old new r
-  from_rows rows r one said sure = record {
+  pub from_rows : (rows : A) (r : Result SchemaRead StoreFault) → ReadsRows items old new (Ok (Some rows)) → IfOk r (IsSaid (items rows)) → IfErr r (λ fault. fault ≡ Memory) → ReadsSchema old new r
+  from_rows rows r one said memory = record {
     survives = one.survives;
     keeps = one.keeps;
     ok = λ clean limit. both r said (one.some clean rows refl);
-    sure = sure;
+    sure = known r memory;
+    cause = λ clean. memory_faults old new r memory;
     only = λ clean limit none. only r none (both r said (one.some clean rows refl));
     under = λ k c clean is. under k c r is (both r said (one.some clean rows refl));
   }
@@ -195,3 +209,7 @@ module _ {A : Type 0} (items : A → List Row) (old new : State) where
       both : (r : Result SchemaRead StoreFault) → IfOk r (IsSaid (items rows)) → IsUnchanged old new × IsAnswer old.now (items rows) → Said r
       both (Ok read) said h = (h.0, says old.now (items rows) read h.1 said)
       both (Err e) said h = tt
+
+      known : (r : Result SchemaRead StoreFault) → IfErr r (λ fault. fault ≡ Memory) → IfErr r (λ fault. fault ≢ Foreign)
+      known (Ok read) h = tt
+      known (Err fault) h = λ foreign. absurd (let no = sym h ∙ foreign in cc)

@@ -1,5 +1,5 @@
 -- How the tables of a new desk are made, and how those of an earlier schema are carried over.
-use Rattle.std.specs.Prelude.{◌≡◌, ◌≢◌, ◌<◌, ◌≤◌, ℕ, [], ◌∷◌, pos, drop, IsTrue, IfOk, IfErr, None, Result}
+use Rattle.std.specs.Prelude.{◌≡◌, ◌<◌, ◌≤◌, ℕ, [], ◌∷◌, pos, drop, IsTrue, IfOk, IfErr, None, Result}
 use Rattle.sqlite.specs.Effect.{IsDatabase}
 use Rattle.sqlite.specs.Order.{Row}
 use Rattle.sqlite.specs.State.{State, HasCleanDisk, KeepsCommit, Survives}
@@ -7,7 +7,7 @@ use Rattle.sqlite.specs.Tree.{Trees}
 use Rattle.sqlite.specs.declared.types.Value.TheVariants.{Null, Int}
 use Rattle.sqlite_trees.specs.Tree.{with_tree}
 use Rattle.base_faults.specs.declared.store_fault.StoreFault.{StoreFault}
-use Rattle.base_faults.specs.declared.store_fault.StoreFault.TheVariants.{Foreign}
+use Rattle.table_forms.specs.Faults.{IsFaultOf}
 use Rattle.table_content.specs.Content.{Content}
 use Rattle.table_schema.specs.Rows.{meta_cells, content_of, AreShown}
 use Rattle.table_schema.specs.Steps.{IsInside, seen}
@@ -63,10 +63,10 @@ pub record IsUnder (k : ℕ) (c : Content) (s : State) : Type 0 where
 -- A call goes from old to new within a transaction: nothing is committed.
 -- Where it is done the transaction goes on; and where Before held of old, the store served, and
 -- serves, and After holds of new.
--- Where Before held it fails for memory, the disk or its size alone.
+-- Where Before held a fault has its cause.
 pub record Builds (Before After : State → Type 0) (old new : State) (result : Result (Unit {0}) StoreFault) : Type 0 where
   pub survives : Survives old new (λ _. ⊥)
   pub keeps : HasCleanDisk new → IsTrue old.in_transaction → KeepsCommit old new
   pub goes_on : HasCleanDisk new → IsTrue old.in_transaction → IfOk result (λ _. IsTrue new.in_transaction)
   pub ok : HasCleanDisk new → Before old → IfOk result (λ _. IsTrue old.is_open × IsTrue new.is_open × After new)
-  pub sure : HasCleanDisk new → Before old → IfErr result (λ fault. fault ≢ Foreign)
+  pub cause : HasCleanDisk new → Before old → IfErr result (IsFaultOf old new)

@@ -12,6 +12,7 @@ use Rattle.sqlite_resolve.specs.declared.error.CompileError.{CompileError}
 use Rattle.sqlite_schema.specs.declared.program.Program.{Program}
 use Rattle.base_faults.specs.declared.store_fault.StoreFault.{StoreFault}
 use Rattle.base_faults.specs.declared.store_fault.StoreFault.TheVariants.{Foreign}
+use Rattle.table_forms.specs.Faults.{IsFaultOf}
 use Rattle.table_forms.specs.Numbers.{number_row}
 use Rattle.table_content.specs.Content.{Content}
 use Rattle.table_history.specs.Making.{IsUnder}
@@ -56,12 +57,13 @@ Says db (Number n) = SaysSchema db n
 Says db NoNumber = SaysNone db
 
 -- The schema's number is asked for: nothing is changed, and an answer is what the database says.
--- It fails for memory, the disk or its size alone.
+-- A fault has its cause, and is never Foreign, whatever the disk is.
 pub record ReadsSchema (old new : State) (result : Result SchemaRead StoreFault) : Type 0 where
   pub survives : Survives old new (λ _. ⊥)
   pub keeps : HasCleanDisk new → KeepsCommit old new
   pub ok : HasCleanDisk new → old.step_limit ≡ None → IfOk result (λ read. IsUnchanged old new × Says old.now read)
   pub sure : IfErr result (λ fault. fault ≢ Foreign)
+  pub cause : HasCleanDisk new → IfErr result (IsFaultOf old new)
   -- where the schema has no view the database says nothing else
   pub only : HasCleanDisk new → old.step_limit ≡ None → old.now.schema.views ≡ [] → IfOk result (λ read. (other : SchemaRead) → Says old.now other → other ≡ read)
   -- the tables of a desk say the number of their schema

@@ -4,6 +4,7 @@ use Rattle.sqlite.specs.Order.{Row}
 use Rattle.sqlite.specs.State.{State, HasCleanDisk, KeepsCommit, Survives, IsUnchanged}
 use Rattle.base_faults.specs.declared.store_fault.StoreFault.{StoreFault}
 use Rattle.base_faults.specs.declared.store_fault.StoreFault.TheVariants.{Memory, Device, Full, Foreign}
+use Rattle.table_forms.specs.Faults.{IsFaultOf}
 use Rattle.table_history.specs.Number.{IsAnswer, IsRefused, AreNumber}
 use Rattle.table_history.specs.declared.number.SchemaRead.{SchemaRead}
 use Rattle.table_history.specs.declared.number.SchemaRead.TheVariants.{Number, NoNumber}
@@ -28,3 +29,4 @@ pub record ReadsRows {A : Type 0} (items : A → List Row) (old new : State) (re
   pub some : HasCleanDisk new → IfOk result (λ o. (rows : A) → o ≡ Some rows → IsUnchanged old new × IsAnswer old.now (items rows))
   pub none : HasCleanDisk new → old.step_limit ≡ None → IfOk result (λ o. o ≡ None → IsUnchanged old new × IsRefused old.now)
   pub sure : IfErr result (λ fault. fault ≢ Foreign)
+  pub cause : HasCleanDisk new → IfErr result (IsFaultOf old new)

@@ -1,8 +1,8 @@
 //! The number of a schema, as its row in `meta` says it.
 
-ghost use Rattle.std.specs.Prelude.{◌≡◌, ◌≢◌, [], ◌∷◌, length, IfOk, IfErr};
+ghost use Rattle.std.specs.Prelude.{◌≡◌, [], ◌∷◌, length, IfOk, IfErr};
 ghost use Rattle.sqlite.specs.Held.{state};
-ghost use Rattle.base_faults.specs.declared.store_fault.StoreFault.TheVariants.{Foreign};
+ghost use Rattle.base_faults.specs.declared.store_fault.StoreFault.TheVariants.{Memory};
 ghost use Rattle.table_history.specs.Number as spec;
 ghost use Rattle.table_history.specs.Said as said;
 
@@ -22,7 +22,7 @@ pub enum SchemaRead {
 // What a row says, if it is the only one.
 fn number_of(row: &Row) -> Result<SchemaRead, StoreFault>
     ensures said { IfOk result (λ read. said.IsSaid (row.now ∷ []) read) }
-    ensures sure { IfErr result (λ fault. fault ≢ Foreign) }
+    ensures memory { IfErr result (λ fault. fault ≡ Memory) }
 {
     if row.column_count() != 1 {
         return Ok(SchemaRead::NoNumber);
@@ -40,7 +40,7 @@ fn number_of(row: &Row) -> Result<SchemaRead, StoreFault>
 // What rows say.
 fn number_in(rows: &[Row]) -> Result<SchemaRead, StoreFault>
     ensures said { IfOk result (λ read. said.IsSaid rows.now read) }
-    ensures sure { IfErr result (λ fault. fault ≢ Foreign) }
+    ensures memory { IfErr result (λ fault. fault ≡ Memory) }
 {
     match rows {
         [row] => number_of(row),

@@ -1,5 +1,5 @@
 -- What the query of the last place of a message's outcomes answers.
-use Rattle.table_schema.proofs.Exports.{◌≡◌, ℕ, ◌+◌, ◌≤◌, pos, true, false, inl, inr, Option, Result, Ok, Err, IfOk, List, [], ◌∷◌, codes, map, filter, take, is_lt, refl, sym, ap, subst, ◌∙◌, arith, IsPermutation, option_map_or, bytes_eq, nat_tests, ints, IsPermutation-map, Int, Text, understood, Row, value_cmp, Query, output, output_cmp, Term, col, IsPlain, reads_as, everything, Key, Binary, value_cmp-Int, then-Equal, StoreFault, first_of, passes, equals, next_above, AreGreatest, stored_free, query_fault_or_same, greatest_first, same_next, IsPageOf, page_free, finds_first, map_map, pair_of, shown_open, shown_same, kept_rows, and_true, holds_text, Content, places_of, ToldOutcome, OutcomeRow, outcome_cells, told_of, placed_each, OUTCOMES, desk_schema, same_text, outcomes, told, IsRead, seen_is}
+use Rattle.table_schema.proofs.Exports.{◌≡◌, ℕ, ◌+◌, ◌≤◌, pos, true, false, inl, inr, Option, Result, Ok, Err, IfOk, List, [], ◌∷◌, codes, map, filter, take, is_lt, refl, sym, ap, subst, ◌∙◌, arith, IsPermutation, option_map_or, bytes_eq, nat_tests, ints, IsPermutation-map, Int, Text, understood, Row, value_cmp, Query, output, output_cmp, Term, col, IsPlain, reads_as, everything, Key, Binary, value_cmp-Int, then-Equal, StoreFault, first_of, passes, equals, next_above, AreGreatest, query_fault_or_same, greatest_first, same_next, IsPageOf, page_free, finds_first, map_map, pair_of, shown_open, shown_same, kept_rows, and_true, holds_text, Content, places_of, ToldOutcome, OutcomeRow, outcome_cells, told_of, placed_each, OUTCOMES, desk_schema, same_text, outcomes, told, IsRead, seen_is}
 use Rattle.table_nodes.proofs.OutcomeOrder.{all_in}
 
 abbrev pub read_text : List ℕ
@@ -55,7 +55,7 @@ place_read id = record {
             (by_their_place (told_of id shown.items) rows (subst (AreGreatest (places_of (told_of id shown.items))) (sym (first.is ∙ ap (take 1) f.is)) is)),
       );
   free = λ old new e inside h. elim (query_fault_or_same old new read_text (Text id ∷ []) e h) [
-    | inl store ↦ stored_free e store
+    | inl store ↦ store
     | inr same ↦ page_free desk_schema read_text (Text id ∷ []) (pos 1) OUTCOMES (equals 1 ∷ []) (col 1 2 ∷ []) by_place _ (read_is id) old new (inside.schema same.0.was_open) inside.unlimited e h
   ];
 }

@@ -1,5 +1,5 @@
 -- What the UPDATE of the next number means.
-use Rattle.table_schema.proofs.Exports.{◌≡◌, ◌≢◌, ℕ, pos, List, [], ◌∷◌, codes, filter, cond, true, Ok, Err, refl, sym, ap, subst, ◌∙◌, arith, ⊤, Update, understood, Row, State, ExecutesInside, Term, lit, col, op2, eval_all, Trees, Error, Null, Int, everything, Binary, Foreign, fault_of, Changes, passes, IsCallOf, IsGoodRow, ChangesWell, changed_row, update_free, hits, same_number, UpdatesRows, updating, update_edit, updates_one, META, meta_table, desk_schema, meta_cells, IsInside, cast_int, cast_null, meta_remade, meta_plain, unique_at, Makes, IsWrite}
+use Rattle.table_schema.proofs.Exports.{◌≡◌, ℕ, pos, List, [], ◌∷◌, codes, filter, cond, true, Ok, Err, refl, sym, ap, subst, ◌∙◌, arith, ⊤, Update, understood, Row, State, ExecutesInside, Term, lit, col, op2, eval_all, Trees, Error, Null, Int, everything, Binary, IsFaultOf, fault_of, Changes, passes, IsCallOf, IsGoodRow, ChangesWell, changed_row, update_free, hits, same_number, UpdatesRows, updating, update_edit, updates_one, META, meta_table, desk_schema, meta_cells, IsInside, cast_int, cast_null, meta_remade, meta_plain, unique_at, Makes, IsWrite}
 use Rattle.sqlite.specs.Edit.{edited}
 use Rattle.sqlite_sql.specs.declared.ops.BinaryOp.TheVariants.{Compare}
 use Rattle.sqlite_sql.specs.declared.ops.CompareOp.TheVariants.{Eq}
@@ -66,7 +66,7 @@ goes_well next n db is = record {
   apart = refl;
 }
 
-write_free : (next : ℕ) (old new : State) (e : Error) → IsInside old → ExecutesInside 0 write_text (params_of next) old new (Err e) → fault_of e ≢ Foreign
+write_free : (next : ℕ) (old new : State) (e : Error) → IsInside old → ExecutesInside 0 write_text (params_of next) old new (Err e) → IsFaultOf old new (fault_of e)
 write_free next old new e inside =
     update_free desk_schema write_text 0 meta_table first_row terms updates_row meta_plain (params_of next) (write_call next) refl old new e inside.unlimited inside.schema (unique_at old inside)
     (λ live. let meta = (inside.shown live).meta in goes_well next meta.0 old.now.trees meta.1)

@@ -1,13 +1,13 @@
 //! The tree of the known nodes.
 
-ghost use Rattle.std.specs.Prelude.{◌≡◌, ◌≢◌, ◌+◌, ◌<◌, true, Option, Some, map, IfOk, IfErr};
+ghost use Rattle.std.specs.Prelude.{◌≡◌, ◌+◌, ◌<◌, true, Option, Some, map, IfOk, IfErr};
 ghost use Rattle.std.specs.List.{AllByRecursion};
 ghost use Rattle.sqlite.specs.Held.{state};
 ghost use Rattle.sqlite.specs.Order.{column};
 ghost use Rattle.sqlite.specs.declared.types.Value.TheVariants.{Text as TextCell};
 ghost use Rattle.version_nodes.specs.Nodes.{Node as SeenNode};
 ghost use Rattle.version_nodes.specs.Trees.{Ancestry, IsForest};
-ghost use Rattle.base_faults.specs.declared.store_fault.StoreFault.TheVariants.{Foreign};
+ghost use Rattle.base_faults.specs.declared.store_fault.StoreFault.TheVariants.{Memory};
 ghost use Rattle.table_schema.specs.Steps.{Acts, Reads, Serves};
 ghost use Rattle.table_nodes.specs.Links.{link_row, IsLink, AreLinksOf};
 
@@ -58,7 +58,7 @@ fn is_node_at(row: &Row, at: usize, node: &Node) -> bool
 // A second such node.
 fn copy_of(node: &Node) -> Result<Node, StoreFault>
     ensures value { IfOk result (λ n. n ≡ node.now) }
-    ensures sure { IfErr result (λ fault. fault ≢ Foreign) }
+    ensures memory { IfErr result (λ fault. fault ≡ Memory) }
 {
     Ok(node.copy()?)
 }
@@ -66,7 +66,7 @@ fn copy_of(node: &Node) -> Result<Node, StoreFault>
 // The same, as one that is there.
 fn some_copy_of(node: &Node) -> Result<Option<Node>, StoreFault>
     ensures value { IfOk result (λ n. n ≡ Some node.now) }
-    ensures sure { IfErr result (λ fault. fault ≢ Foreign) }
+    ensures memory { IfErr result (λ fault. fault ≡ Memory) }
 {
     Ok(Some(copy_of(node)?))
 }
@@ -74,7 +74,7 @@ fn some_copy_of(node: &Node) -> Result<Option<Node>, StoreFault>
 // The node in a row, which shares the texts of this one, where it is the same.
 fn node_in(alloc: Global, row: &Row, like: Option<&Node>) -> Result<Node, StoreFault>
     ensures value { (l : SeenNode × Option SeenNode) → IsLink l → row.now ≡ link_row l → IfOk result (λ node. node ≡ l.0) }
-    ensures sure { (l : SeenNode × Option SeenNode) → IsLink l → row.now ≡ link_row l → IfErr result (λ fault. fault ≢ Foreign) }
+    ensures memory { (l : SeenNode × Option SeenNode) → IsLink l → row.now ≡ link_row l → IfErr result (λ fault. fault ≡ Memory) }
 {
     let Some(like) = like else {
         return node_at(alloc, row, 0);
@@ -88,7 +88,7 @@ fn node_in(alloc: Global, row: &Row, like: Option<&Node>) -> Result<Node, StoreF
 // The parent in a row, if there is one; it shares texts so, too.
 fn parent_in(alloc: Global, row: &Row, like: Option<&Node>) -> Result<Option<Node>, StoreFault>
     ensures value { (l : SeenNode × Option SeenNode) → IsLink l → row.now ≡ link_row l → IfOk result (λ parent. parent ≡ l.1) }
-    ensures sure { (l : SeenNode × Option SeenNode) → IsLink l → row.now ≡ link_row l → IfErr result (λ fault. fault ≢ Foreign) }
+    ensures memory { (l : SeenNode × Option SeenNode) → IsLink l → row.now ≡ link_row l → IfErr result (λ fault. fault ≡ Memory) }
 {
     let Some(like) = like else {
         return maybe_node_at(alloc, row, 2);
@@ -124,7 +124,7 @@ fn link_in(
     before: Option<&(Node, Option<Node>)>,
 ) -> Result<(Node, Option<Node>), StoreFault>
     ensures value { (l : SeenNode × Option SeenNode) → IsLink l → row.now ≡ link_row l → IfOk result (λ link. link ≡ l) }
-    ensures sure { (l : SeenNode × Option SeenNode) → IsLink l → row.now ≡ link_row l → IfErr result (λ fault. fault ≢ Foreign) }
+    ensures memory { (l : SeenNode × Option SeenNode) → IsLink l → row.now ≡ link_row l → IfErr result (λ fault. fault ≡ Memory) }
 {
     let node = node_in(alloc, row, parent_of(before))?;
     let parent = parent_in(alloc, row, node_of(before))?;
@@ -134,7 +134,7 @@ fn link_in(
 // The links of rows, in their order.
 fn links_of(alloc: Global, rows: &[Row]) -> Result<Vec<(Node, Option<Node>)>, StoreFault>
     ensures value { (ls : Ancestry) → AllByRecursion IsLink ls → rows.now ≡ map link_row ls → IfOk result (λ links. links.items ≡ ls) }
-    ensures sure { (ls : Ancestry) → AllByRecursion IsLink ls → rows.now ≡ map link_row ls → IfErr result (λ fault. fault ≢ Foreign) }
+    ensures memory { (ls : Ancestry) → AllByRecursion IsLink ls → rows.now ≡ map link_row ls → IfErr result (λ fault. fault ≡ Memory) }
 {
     let mut links = Vec::new(alloc);
     for row in rows {
@@ -150,7 +150,7 @@ fn links_of(alloc: Global, rows: &[Row]) -> Result<Vec<(Node, Option<Node>)>, St
 // The tree of the nodes of rows.
 fn tree_of(alloc: Global, rows: &[Row]) -> Result<Tree, StoreFault>
     ensures value { (t : Ancestry) → IsForest t → AreLinksOf t rows.now → IfOk result (λ tree. tree ≡ t) }
-    ensures sure { (t : Ancestry) → IsForest t → AreLinksOf t rows.now → IfErr result (λ fault. fault ≢ Foreign) }
+    ensures memory { (t : Ancestry) → IsForest t → AreLinksOf t rows.now → IfErr result (λ fault. fault ≡ Memory) }
 {
     let links = links_of(alloc, rows)?;
     match Tree::of_links(alloc, links) {
@@ -163,7 +163,7 @@ fn tree_of(alloc: Global, rows: &[Row]) -> Result<Tree, StoreFault>
 // The same, from which one can go to children.
 fn family_of(alloc: Global, rows: &[Row]) -> Result<Family, StoreFault>
     ensures value { (t : Ancestry) → IsForest t → AreLinksOf t rows.now → IfOk result (λ family. family ≡ t) }
-    ensures sure { (t : Ancestry) → IsForest t → AreLinksOf t rows.now → IfErr result (λ fault. fault ≢ Foreign) }
+    ensures memory { (t : Ancestry) → IsForest t → AreLinksOf t rows.now → IfErr result (λ fault. fault ≡ Memory) }
 {
     let tree = tree_of(alloc, rows)?;
     match Family::of_tree(alloc, tree) {

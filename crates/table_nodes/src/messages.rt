@@ -1,8 +1,8 @@
 //! The messages that have an id.
 
-ghost use Rattle.std.specs.Prelude.{◌≡◌, ◌≢◌, Option, IfOk, IfErr};
+ghost use Rattle.std.specs.Prelude.{◌≡◌, Option, IfOk, IfErr};
 ghost use Rattle.sqlite.specs.Held.{state};
-ghost use Rattle.base_faults.specs.declared.store_fault.StoreFault.TheVariants.{Foreign};
+ghost use Rattle.base_faults.specs.declared.store_fault.StoreFault.TheVariants.{Memory};
 ghost use Rattle.table_content.specs.declared.edit.Edit.TheVariants.{PutMessage};
 ghost use Rattle.table_content.specs.declared.edit.SentMessage.{SentMessage as SeenMessage};
 ghost use Rattle.table_schema.specs.Steps.{Plays, Reads, Serves};
@@ -47,7 +47,7 @@ fn message_rows<S: Alter>(tx: &mut Transaction<'_, S>, id: &str) -> Result<Vec<R
 // The message of a row.
 fn message_in(alloc: Global, row: &Row) -> Result<SentMessage, StoreFault>
     ensures value { (m : SeenMessage) → row.now ≡ message_row m → IfOk result (λ message. message ≡ m) }
-    ensures sure { (m : SeenMessage) → row.now ≡ message_row m → HasUtf8 m → IfErr result (λ fault. fault ≢ Foreign) }
+    ensures memory { (m : SeenMessage) → row.now ≡ message_row m → HasUtf8 m → IfErr result (λ fault. fault ≡ Memory) }
 {
     let from = text_at(alloc, row, 0)?;
     let message = bytes_text_at(alloc, row, 1)?;
@@ -57,7 +57,7 @@ fn message_in(alloc: Global, row: &Row) -> Result<SentMessage, StoreFault>
 // The message of the only row, if there is one.
 fn message_of(alloc: Global, rows: &[Row]) -> Result<Option<SentMessage>, StoreFault>
     ensures value { (o : Option SeenMessage) → AreMessageRows rows.now o → IfOk result (λ message. message ≡ o) }
-    ensures sure { (o : Option SeenMessage) → AreMessageRows rows.now o → IfErr result (λ fault. fault ≢ Foreign) }
+    ensures memory { (o : Option SeenMessage) → AreMessageRows rows.now o → IfErr result (λ fault. fault ≡ Memory) }
 {
     match rows {
         [] => Ok(None),

@@ -1,9 +1,9 @@
 //! The next number to give to a bug.
 
-ghost use Rattle.std.specs.Prelude.{◌≡◌, ◌≢◌, ℕ, [], ◌∷◌, IfOk, IfErr, ⊤};
+ghost use Rattle.std.specs.Prelude.{◌≡◌, ℕ, [], ◌∷◌, IfOk, IfErr, ⊤};
 ghost use Rattle.sqlite.specs.Held.{state};
 ghost use Rattle.table_forms.specs.Numbers.{number_row};
-ghost use Rattle.base_faults.specs.declared.store_fault.StoreFault.TheVariants.{Foreign};
+ghost use Rattle.base_faults.specs.declared.store_fault.StoreFault.TheVariants.{Memory};
 ghost use Rattle.table_schema.specs.Steps.{Acts, Reads, Serves};
 
 use base_faults::StoreFault;
@@ -31,7 +31,7 @@ fn next_rows<S: Alter>(tx: &mut Transaction<'_, S>) -> Result<Vec<Row>, StoreFau
 // The number of the only row; where there is none, the tables are no desk's.
 fn next_in(rows: &[Row]) -> Result<u64, StoreFault>
     ensures value { (n : ℕ) → rows.now ≡ number_row n ∷ [] → IfOk result (λ v. v ≡ n) }
-    ensures sure { (n : ℕ) → rows.now ≡ number_row n ∷ [] → IfErr result (λ fault. fault ≢ Foreign) }
+    ensures memory { (n : ℕ) → rows.now ≡ number_row n ∷ [] → IfErr result (λ fault. fault ≡ Memory) }
 {
     match number_in(rows)? {
         Some(next) => Ok(next),

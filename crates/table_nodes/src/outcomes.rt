@@ -7,7 +7,7 @@ ghost use Rattle.sqlite.specs.Values.{or_null};
 ghost use Rattle.sqlite.specs.declared.types.Value.TheVariants.{Null, Text as TextCell};
 ghost use Rattle.version_nodes.specs.Nodes.{Node as SeenNode, IsNode};
 ghost use Rattle.base_words.specs.Texts.{IfGiven};
-ghost use Rattle.base_faults.specs.declared.store_fault.StoreFault.TheVariants.{Foreign};
+ghost use Rattle.base_faults.specs.declared.store_fault.StoreFault.TheVariants.{Memory};
 ghost use Rattle.table_content.specs.declared.edit.Edit.TheVariants.{PutOutcome};
 ghost use Rattle.table_content.specs.declared.edit.ToldOutcome.{ToldOutcome as SeenOutcome};
 ghost use Rattle.table_schema.specs.Steps.{Plays, Reads, Serves};
@@ -93,7 +93,7 @@ fn outcome_rows<S: Alter>(tx: &mut Transaction<'_, S>, id: &str) -> Result<Vec<R
 fn is_null_at(row: &Row, at: usize) -> Result<bool, StoreFault>
     ensures null { IfOk result (λ null. null ≡ true → column row.now at ≡ Null) }
     ensures other { IfOk result (λ null. null ≡ false → column row.now at ≢ Null) }
-    ensures sure { at < length row.now → IfErr result (λ fault. fault ≢ Foreign) }
+    ensures memory { at < length row.now → IfErr result (λ fault. fault ≡ Memory) }
 {
     match row.get_ref(at) {
         Ok(ValueRef::Null) => Ok(true),
@@ -108,8 +108,8 @@ pub(crate) fn maybe_node_at(alloc: Global, row: &Row, at: usize) -> Result<Optio
     requires { at < 100 }
     ensures value { (v : Option SeenNode) → IfGiven IsNode v → column row.now at ≡ or_null (λ n. TextCell n.source) v →
         column row.now (at + 1) ≡ or_null (λ n. TextCell n.version) v → IfOk result (λ node. node ≡ v) }
-    ensures sure { (v : Option SeenNode) → at + 1 < length row.now → IfGiven IsNode v → column row.now at ≡ or_null (λ n. TextCell n.source) v →
-        column row.now (at + 1) ≡ or_null (λ n. TextCell n.version) v → IfErr result (λ fault. fault ≢ Foreign) }
+    ensures memory { (v : Option SeenNode) → at + 1 < length row.now → IfGiven IsNode v → column row.now at ≡ or_null (λ n. TextCell n.source) v →
+        column row.now (at + 1) ≡ or_null (λ n. TextCell n.version) v → IfErr result (λ fault. fault ≡ Memory) }
 {
     let is_null = is_null_at(row, at)?;
     if is_null {
@@ -124,7 +124,7 @@ pub(crate) fn maybe_node_at(alloc: Global, row: &Row, at: usize) -> Result<Optio
 // The outcome of a row.
 fn outcome_at(alloc: Global, row: &Row) -> Result<Outcome, StoreFault>
     ensures value { (t : SeenOutcome) → IsToldOutcome t → row.now ≡ outcome_row t → IfOk result (λ outcome. outcome ≡ t.outcome) }
-    ensures sure { (t : SeenOutcome) → IsToldOutcome t → row.now ≡ outcome_row t → IfErr result (λ fault. fault ≢ Foreign) }
+    ensures memory { (t : SeenOutcome) → IsToldOutcome t → row.now ≡ outcome_row t → IfErr result (λ fault. fault ≡ Memory) }
 {
     let kind = number_at(row, 1)?;
     let number = maybe_number_at(row, 2)?;
@@ -139,7 +139,7 @@ fn outcome_at(alloc: Global, row: &Row) -> Result<Outcome, StoreFault>
 // The outcome of a row, with its place.
 fn outcome_in(alloc: Global, row: &Row) -> Result<ToldOutcome, StoreFault>
     ensures value { (t : SeenOutcome) → IsToldOutcome t → row.now ≡ outcome_row t → IfOk result (λ told. told ≡ t) }
-    ensures sure { (t : SeenOutcome) → IsToldOutcome t → row.now ≡ outcome_row t → IfErr result (λ fault. fault ≢ Foreign) }
+    ensures memory { (t : SeenOutcome) → IsToldOutcome t → row.now ≡ outcome_row t → IfErr result (λ fault. fault ≡ Memory) }
 {
     let place = number_at(row, 0)?;
     let outcome = outcome_at(alloc, row)?;
@@ -149,7 +149,7 @@ fn outcome_in(alloc: Global, row: &Row) -> Result<ToldOutcome, StoreFault>
 // The outcomes of rows, in their order.
 fn outcomes_of(alloc: Global, rows: &[Row]) -> Result<Sequence<ToldOutcome>, StoreFault>
     ensures value { (ts : List SeenOutcome) → AreOutcomeRows rows.now ts → IfOk result (λ outcomes. outcomes ≡ ts) }
-    ensures sure { (ts : List SeenOutcome) → AreOutcomeRows rows.now ts → IfErr result (λ fault. fault ≢ Foreign) }
+    ensures memory { (ts : List SeenOutcome) → AreOutcomeRows rows.now ts → IfErr result (λ fault. fault ≡ Memory) }
 {
     let mut outcomes = Sequence::new(alloc);
     for row in rows {

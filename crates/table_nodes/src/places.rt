@@ -1,10 +1,10 @@
 //! The place of one more outcome of a message that has an id.
 
-ghost use Rattle.std.specs.Prelude.{◌≡◌, ◌≢◌, ◌+◌, ℕ, Option, [], ◌∷◌, IfOk, IfErr};
+ghost use Rattle.std.specs.Prelude.{◌≡◌, ◌+◌, ℕ, Option, [], ◌∷◌, IfOk, IfErr};
 ghost use Rattle.std.specs.Option.{option_map_or};
 ghost use Rattle.sqlite.specs.Held.{state};
 ghost use Rattle.table_forms.specs.Numbers.{number_row, next_above, AreGreatest};
-ghost use Rattle.base_faults.specs.declared.store_fault.StoreFault.TheVariants.{Foreign};
+ghost use Rattle.base_faults.specs.declared.store_fault.StoreFault.TheVariants.{Memory};
 ghost use Rattle.table_content.specs.Edits.{places_of};
 ghost use Rattle.table_schema.specs.Steps.{Reads, Serves};
 
@@ -25,19 +25,19 @@ fn last_rows<S: Alter>(tx: &mut Transaction<'_, S>, id: &str) -> Result<Vec<Row>
     ))
 }
 
-// One above the number of the only row, or 0 where there is none: there is no room for a larger
-// one in the tables.
+// One above the number of the only row, or 0 where there is none: what is too large for the tables
+// is told as want of memory.
 fn above_row(rows: &[Row]) -> Result<u64, StoreFault>
     ensures value { (o : Option ℕ) → rows.now ≡ option_map_or (λ n. number_row n ∷ []) o [] → IfOk result (λ v. v ≡ option_map_or (λ n. n + 1) o 0) }
-    ensures sure { (o : Option ℕ) → rows.now ≡ option_map_or (λ n. number_row n ∷ []) o [] →
-        IfErr result (λ fault. fault ≢ Foreign) }
+    ensures memory { (o : Option ℕ) → rows.now ≡ option_map_or (λ n. number_row n ∷ []) o [] →
+        IfErr result (λ fault. fault ≡ Memory) }
 {
     let Some(last) = number_in(rows)? else {
         return Ok(0);
     };
     match last.checked_add(1) {
         Some(next) => Ok(next),
-        None => Err(StoreFault::Full),
+        None => Err(StoreFault::Memory),
     }
 }
 

@@ -1,6 +1,6 @@
 -- Whether a database is recognised as a desk's, and what is found.
-use Rattle.table_opening.proofs.Imports.{AreUnder, Says, IsLeft, SaysEarlier, HasContent, HasContentUnder, AreTablesOf, StillShows, AsksSchema, IsRecognised, IsCarried, IsFound, NotADesk, NewerSchema, Store}
-use Rattle.table_schema.proofs.Exports.{◌≡◌, ◌≢◌, false, ◌<◌, ◌≤◌, ℕ, Result, Ok, Err, arith, refl, sym, ap, subst, ◌∙◌, Database, IsDatabase, State, HasCleanDisk, Survives, survives_then, survives_weaker, Content, no_content, StoreFault, seen}
+use Rattle.table_opening.proofs.Imports.{AreUnder, Says, IsLeft, SaysEarlier, HasContent, HasContentUnder, AreTablesOf, StillShows, AsksSchema, IsFailureOf, IsStoreFailure, IsRecognised, IsCarried, IsFound, NotADesk, NewerSchema, Store}
+use Rattle.table_schema.proofs.Exports.{◌≡◌, ◌≢◌, false, ◌<◌, ◌≤◌, ℕ, Result, Ok, Err, arith, refl, sym, ap, subst, ◌∙◌, Database, IsDatabase, State, HasCleanDisk, Survives, IsFaultOf, fault_later, survives_then, survives_weaker, Content, no_content, StoreFault, seen}
 use Rattle.sqlite_trees.specs.declared.store.Store as store
 use Rattle.table_history.specs.declared.history.TheConstants.{NEWEST}
 use Rattle.table_history.specs.declared.number.SchemaRead.{SchemaRead}
@@ -86,8 +86,12 @@ unasked old new fault asked = record {
   known = tt;
   under = λ k c clean shows. tt;
   why = λ clean is. absurd (asked.sure is);
-  desk = λ c clean holds. (fault, refl, asked.sure);
+  desk = λ c clean holds. (fault, refl, asked.cause clean);
 }
+
+-- a fault that has its cause is no foreign one
+pub is_failure : (old new : State) (why : OpenFault) → IsFailureOf old new why → IsStoreFailure why
+is_failure old new why (fault, is, cause) = (fault, is, λ foreign. subst (IsFaultOf old new) foreign cause)
 
 -- ---- a desk that is found
 
@@ -188,7 +192,13 @@ module _ {A : Type 0} (shown : A → State) (old : State) where
       serves = tt;
       stays = tt;
       why = λ clean is. (n, low, (it.ok (early (Err fault) carried clean)).1);
-      desk = λ c clean holds. (fault, refl, (carried c).sure clean tt (as_found holds.0 c (early (Err fault) carried clean) holds.1));
+      desk = λ c clean holds.
+          let early_clean = early (Err fault) carried clean in (
+            fault,
+            refl,
+            fault_later old mid new _ _ it.survives ((carried c).crash (λ clean. (tt, as_found holds.0 c (early (Err fault) carried clean) holds.1))) early_clean fault
+                ((carried c).cause clean tt (as_found holds.0 c early_clean holds.1)),
+          );
       err = left_then old mid new it.left ((carried (no_content 0)).err tt);
       other = not_carried (Err fault) carried;
       crash = crashed (Err fault) carried;

@@ -1,8 +1,10 @@
 -- What a transaction comes to: one that is rolled back, how one ends, and one that leads to the
 -- tables of a desk.
 use Rattle.table_opening.proofs.Imports.{IsBlank, IsDeskOf, IsUnder, Builds, Says, ReadsSchema, IsLeft, IsDesk, HasContentUnder, AreTablesOf, StillShows, IsDone, IsMade, IsCarried, AsksSchema, IsCommitFault, Ends}
-use Rattle.table_schema.proofs.Exports.{◌≡◌, ◌≢◌, ℕ, ◌⊎◌, inl, inr, [], Result, Ok, Err, IfOk, IfErr, IsTrue, IsOk, None, false, true, true≢false, arith, refl, sym, ap, subst, ◌∙◌, ⊤, Database, IsDatabase, State, Shows, KeepsCounts, HasCleanDisk, KeepsCommit, Survives, IsUnchanged, IsRolledBack, Error, survives_then, survives_weaker, StoreFault, Foreign, fault_of, commit_free, Content, no_content, content_of, AreShown, seen, done, failed}
+use Rattle.table_schema.proofs.Exports.{◌≡◌, ℕ, ◌⊎◌, inl, inr, [], Result, Ok, Err, IfOk, IfErr, IsTrue, IsOk, None, false, true, true≢false, arith, refl, sym, ap, subst, ◌∙◌, ⊤, Database, IsDatabase, State, Shows, KeepsCounts, HasCleanDisk, KeepsCommit, Survives, IsUnchanged, IsRolledBack, Error, survives_then, survives_weaker, StoreFault, Memory, Device, Full, Foreign, IsFaultOf, fault_later, fault_sooner, faults_sooner, fault_of, commit_free, Content, no_content, content_of, AreShown, seen, done, failed}
+use Rattle.std.specs.Prelude.{OnOk}
 use Rattle.sqlite.specs.Steps.{FailsToCommit}
+use Rattle.table_forms.specs.Faults.{told}
 use Rattle.table_history.specs.declared.number.SchemaRead.{SchemaRead}
 use Rattle.table_opening.proofs.StillLemmas.{shows_now}
 
@@ -10,6 +12,17 @@ use Rattle.table_opening.proofs.StillLemmas.{shows_now}
 
 abbrev pub begun : State → State
 begun s = record s { in_transaction = true }
+
+-- what is asked of a fault speaks of no transaction
+pub unbegun : (old new : State) (fault : StoreFault) → IsFaultOf (begun old) new fault → IsFaultOf old new fault
+unbegun old new Memory h = tt
+unbegun old new Device h = h
+unbegun old new Full h = h
+unbegun old new Foreign h = h
+
+pub unbegun_all : {A : Type 0} (old new : State) (r : Result A StoreFault) → IfErr r (IsFaultOf (begun old) new) → IfErr r (IsFaultOf old new)
+unbegun_all old new (Ok a) h = tt
+unbegun_all old new (Err fault) h = unbegun old new fault h
 
 begins_under : (k : ℕ) (s : State) (c : Content) → s.step_limit ≡ None → HasCleanDisk s → HasContentUnder k c s → IsUnder k c (begun s)
 begins_under k s c limit clean shows = record { begun = refl; unlimited = limit; schema = λ o. (shows clean o).schema; sound = λ o. (shows clean o).sound; shown = λ o. (shows clean o).shown }
@@ -44,6 +57,7 @@ asks old mid new r limit reads idle back survives = record {
   left = left_undone old mid new early kept back idle;
   ok = λ clean. said r (reads.ok (late clean) limit);
   sure = reads.sure;
+  cause = λ clean. unbegun_all old new r (faults_sooner (begun old) mid new (λ _. ⊥) r (reads.cause (late clean)) survives);
   under = λ k c clean shows. reads.under k c (late clean) (begins_under k old c limit (early clean) shows);
 }
   where
@@ -65,19 +79,21 @@ asks old mid new r limit reads idle back survives = record {
 
 -- ---- the end of a transaction
 
-pub ends_ok : (mid new : State) → (HasCleanDisk new → IsTrue mid.in_transaction × Shows mid new mid.now mid.now false × KeepsCounts mid new × (new.marks ≡ [])) → Survives mid new (λ db. db ≡ mid.now.trees) → Ends mid new done done
+ends_ok : (mid new : State) → (HasCleanDisk new → IsTrue mid.in_transaction × Shows mid new mid.now mid.now false × KeepsCounts mid new × (new.marks ≡ [])) → Survives mid new (λ db. db ≡ mid.now.trees) → Ends mid new done done
 ends_ok mid new ok survives = record {
   survives = survives_weaker mid new _ _ (λ clean db is. (refl, is)) survives;
   ok = λ clean. let h = (ok clean).1 in (refl, h.was_open, h.is_open, h.now_is, h.committed_is);
   err = λ clean inside. tt;
+  first = λ fault is. absurd (let no = is in cc);
   cause = λ clean did inside. tt;
 }
 
-pub ends_failed : (mid new : State) (e : Error) → (HasCleanDisk new → FailsToCommit mid new e) → Survives mid new (λ db. db ≡ mid.now.trees) → Ends mid new done (failed (fault_of e))
+ends_failed : (mid new : State) (e : Error) → (HasCleanDisk new → FailsToCommit mid new e) → Survives mid new (λ db. db ≡ mid.now.trees) → Ends mid new done (failed (fault_of e))
 ends_failed mid new e fails survives = record {
   survives = survives_weaker mid new _ _ (λ clean db is. (refl, is)) survives;
   ok = λ clean. tt;
   err = λ clean inside. go (inside refl) (fails clean);
+  first = λ fault is. absurd (let no = is in cc);
   cause = λ clean did inside. named inside (fails clean);
 }
   where
@@ -85,15 +101,22 @@ ends_failed mid new e fails survives = record {
     named inside (inl fails) = (fails.0, ap fault_of fails.1, fails.2, fails.4)
     named inside (inr (why, off, same)) = absurd (true≢false (sym inside ∙ off))
 
-    go : IsTrue mid.in_transaction → FailsToCommit mid new e → IsRolledBack mid new × (fault_of e ≢ Foreign ⊎ (done ≡ failed (fault_of e)))
+    go : IsTrue mid.in_transaction → FailsToCommit mid new e → IsRolledBack mid new × (IsFaultOf mid new (fault_of e) ⊎ (done ≡ failed (fault_of e)))
     go inside (inl fails) = (fails.3, inl (commit_free mid new e inside (inl fails)))
     go inside (inr (why, off, same)) = absurd (true≢false (sym inside ∙ off))
+
+-- a commit
+pub ends_told : (mid new : State) (r : Result (Unit {0}) Error) → (HasCleanDisk new → OnOk r (IsTrue mid.in_transaction × Shows mid new mid.now mid.now false × KeepsCounts mid new × (new.marks ≡ [])))
+    → (HasCleanDisk new → IfErr r (FailsToCommit mid new)) → Survives mid new (λ db. db ≡ mid.now.trees) → Ends mid new done (told r)
+ends_told mid new (Ok u) ok err survives = ends_ok mid new ok survives
+ends_told mid new (Err e) ok err survives = ends_failed mid new e err survives
 
 pub ends_undone : (mid new : State) (fault : StoreFault) → (HasCleanDisk new → IsRolledBack mid new) → Survives mid new (λ _. ⊥) → Ends mid new (failed fault) (failed fault)
 ends_undone mid new fault back survives = record {
   survives = survives_weaker mid new _ _ (λ clean db none. absurd none) survives;
   ok = λ clean. tt;
   err = λ clean inside. (back clean, inr refl);
+  first = λ first is. is;
   cause = λ clean did inside. absurd (true≢false (sym did));
 }
 
@@ -109,17 +132,17 @@ pub record Leads (Begun Fits : Type 0) (after : Content) (old mid : State) (did 
   pub keeps : HasCleanDisk mid → Begun → KeepsCommit old mid
   pub goes_on : HasCleanDisk mid → Begun → IfOk did (λ _. IsTrue mid.in_transaction)
   pub went : HasCleanDisk mid → Begun → Fits → IfOk did (λ _. IsTrue old.is_open × IsTrue mid.is_open × IsDeskOf after mid)
-  pub sure : HasCleanDisk mid → Begun → Fits → IfErr did (λ fault. fault ≢ Foreign)
+  pub cause : HasCleanDisk mid → Begun → Fits → IfErr did (IsFaultOf old mid)
 
 module _ (Begun Fits : Type 0) (after : Content) (old mid new : State) (did : Result (Unit {0}) StoreFault) (leads : Leads Begun Fits after (begun old) mid did) where
   steps : Survives (begun old) mid (λ _. ⊥)
   steps = leads.survives
 
   abbrev Failed : StoreFault → Type 0
-  Failed fault = IsRolledBack mid new × (fault ≢ Foreign ⊎ (did ≡ failed fault))
+  Failed fault = IsRolledBack mid new × (IsFaultOf mid new fault ⊎ (did ≡ failed fault))
 
   pub committed : (r : Result (Unit {0}) StoreFault) → Ends mid new did r → new.in_transaction ≡ false → IsDone Begun Fits after old new r
-  committed r ends idle = record { honest = early; ok = oks r ends.ok; err = errs r ends.err; sure = sures r ends.err; crash = crash }
+  committed r ends idle = record { honest = early; ok = oks r ends.ok; err = errs r ends.err; cause = causes r ends.err; crash = crash }
     where
       late : HasCleanDisk new → HasCleanDisk mid
       late clean = omega (arith, ends.survives.clean, clean)
@@ -153,13 +176,13 @@ module _ (Begun Fits : Type 0) (after : Content) (old mid new : State) (did : Re
       errs (Ok u) ended was = tt
       errs (Err e) ended was = left_undone old mid new early (λ clean. leads.keeps (late clean) was) (λ clean. (ended clean (inside clean was)).0) idle
 
-      sures : (r : Result (Unit {0}) StoreFault) → (HasCleanDisk new → (IsOk did → IsTrue mid.in_transaction) → IfErr r Failed)
-          → HasCleanDisk new → Begun → Fits → IfErr r (λ fault. fault ≢ Foreign)
-      sures (Ok u) ended clean was fits = tt
-      sures (Err e) ended clean was fits = elim ((ended clean (inside clean was)).1) [
-        | inl sure ↦ sure
-        | inr same ↦ subst (λ r. IfErr r (λ fault. fault ≢ Foreign)) same (leads.sure (late clean) was fits)
-      ]
+      causes : (r : Result (Unit {0}) StoreFault) → (HasCleanDisk new → (IsOk did → IsTrue mid.in_transaction) → IfErr r Failed)
+          → HasCleanDisk new → Begun → Fits → IfErr r (IsFaultOf old new)
+      causes (Ok u) ended clean was fits = tt
+      causes (Err e) ended clean was fits = unbegun old new e (elim ((ended clean (inside clean was)).1) [
+        | inl late_fault ↦ fault_later (begun old) mid new _ _ steps ends.survives (late clean) e late_fault
+        | inr same ↦ fault_sooner (begun old) mid new _ e (subst (λ r. IfErr r (IsFaultOf (begun old) mid)) same (leads.cause (late clean) was fits)) ends.survives
+      ])
 
       crash : (HasCleanDisk new → Begun × Fits) → Survives old new (AreTablesOf after)
       crash both = survives_then old mid new _ _ (AreTablesOf after) (λ _ db none. absurd none)
@@ -184,7 +207,7 @@ module _ (old mid new : State) (did r : Result (Unit {0}) StoreFault) (limit : o
         keeps = λ clean _. builds.keeps clean refl;
         goes_on = λ clean _. builds.goes_on clean refl;
         went = λ clean _ fits. builds.ok clean (before (omega (arith, one.clean, clean)) fits);
-        sure = λ clean _ fits. builds.sure clean (before (omega (arith, one.clean, clean)) fits);
+        cause = λ clean _ fits. builds.cause clean (before (omega (arith, one.clean, clean)) fits);
       }) r ends idle
 
   -- those of a new desk

@@ -4,6 +4,7 @@ use Rattle.sqlite.specs.Effect.{Database}
 use Rattle.sqlite.specs.State.{State, HasCleanDisk}
 use Rattle.base_faults.specs.declared.store_fault.StoreFault.{StoreFault}
 use Rattle.base_faults.specs.declared.store_fault.StoreFault.TheVariants.{Foreign}
+use Rattle.table_forms.specs.Faults.{IsFaultOf}
 use Rattle.table_content.specs.Content.{Content}
 use Rattle.table_history.specs.Number.{SaysSchema, SaysNone}
 use Rattle.table_history.specs.declared.history.TheConstants.{NEWEST}
@@ -29,6 +30,10 @@ pub record IsLeft (old new : State) : Type 0 where
 -- the store failed, for memory, the disk or its size
 abbrev pub IsStoreFailure : OpenFault → Type 0
 IsStoreFailure why = (fault : StoreFault) × (why ≡ Store fault) × (fault ≢ Foreign)
+
+-- a fault of the store is told, which has its cause
+abbrev pub IsFailureOf : State → State → OpenFault → Type 0
+IsFailureOf old new why = (fault : StoreFault) × (why ≡ Store fault) × IsFaultOf old new fault
 
 -- the database says the number of a schema before the newest
 abbrev pub SaysEarlier : Database → Type 0

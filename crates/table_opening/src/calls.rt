@@ -11,10 +11,11 @@ ghost use Rattle.table_opening.specs.Transactions.{IsMade, IsCarried, AsksSchema
 use base_faults::StoreFault;
 use sqlite::{Alter, Connection, Transaction};
 use table_history::{SchemaRead, carry_over, make_tables, read_schema};
-use table_schema::fault_of;
+use table_schema::told;
 
 /// Ends a transaction: with a commit where its steps were done, and else undone.
-/// The error is that of the steps, or what the commit failed for: memory, the disk or its size.
+/// The error is that of the steps, the first, or what the commit failed for: memory, the disk or
+/// its size.
 /// After an error the tables are as they were before the transaction; in either case the connection
 /// is outside one.
 /// A crash at any moment of the call leaves what it would have left before, or what is committed.
@@ -27,10 +28,7 @@ pub fn finish<S: Alter>(
         (state S.Store tx.exit.0.now) done result }
 {
     match done {
-        Ok(()) => match tx.commit() {
-            Ok(()) => Ok(()),
-            Err(error) => Err(fault_of(&error)),
-        },
+        Ok(()) => told(tx.commit()),
         Err(fault) => {
             tx.rollback();
             Err(fault)

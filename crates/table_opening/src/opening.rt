@@ -17,7 +17,8 @@ use table_history::{NEWEST, SchemaRead, is_blank, names_a_desk_table};
 /// of a desk's, `Store(Foreign)` where there are other tables, indexes or views, and else what the
 /// store failed for.
 /// In either case the connection is left outside a transaction, and with no limit of steps.
-/// A crash at any moment of the call leaves what it would have left before, or the new desk.
+/// A crash at any moment of the call leaves what it would have left before, or the new desk; where
+/// there are tables it leaves what it would have left before.
 pub fn create_tables<S: Alter>(conn: &mut Connection<S>, first: u32) -> Result<(), OpenFault>
     requires idle { IsIdle conn.old }
     ensures idle { IsIdle conn.new }

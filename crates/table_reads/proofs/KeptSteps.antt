@@ -1,10 +1,11 @@
 -- What questions inside a transaction come to together, where the tables may be kept.
 -- Nothing here speaks of a statement.
-use Rattle.std.proofs.Common.{◌≡◌, ◌≢◌, Result, Ok, Err, IfOk, IfErr, refl, sym, subst, ◌∙◌}
+use Rattle.std.proofs.Common.{◌≡◌, Result, Ok, Err, IfOk, IfErr, refl, sym, subst, ◌∙◌}
 use Rattle.std.specs.Prelude.{⊤}
 use Rattle.sqlite.specs.State.{State}
 use Rattle.base_faults.specs.declared.store_fault.StoreFault.{StoreFault}
-use Rattle.base_faults.specs.declared.store_fault.StoreFault.TheVariants.{Foreign}
+use Rattle.base_faults.specs.declared.store_fault.StoreFault.TheVariants.{Memory}
+use Rattle.table_schema.proofs.Exports.{memory_faults}
 use Rattle.table_content.specs.Content.{Content}
 use Rattle.table_content.specs.Kept.{IsKeptContent}
 use Rattle.table_schema.specs.Steps.{seen, Goes, Reads, Serves}
@@ -40,12 +41,12 @@ kept_none s a P all = acts_none s a IsKeptContent (λ c d a. (d ≡ c) × (IsKep
 -- ---- pure work on what an open store answered
 
 pub kept_work : {A B : Type 0} (old new : State) (a : A) (r : Result B StoreFault) (P : Content → A → Type 0) (Q : Content → B → Type 0)
-    → ((c : Content) → IsKeptContent c → P c a → IfOk r (Q c) × IfErr r (λ fault. fault ≢ Foreign)) → Serves old new (Ok a) → ReadsKept P old new (Ok a) → ReadsKept Q old new r
+    → ((c : Content) → IsKeptContent c → P c a → IfOk r (Q c) × IfErr r (λ fault. fault ≡ Memory)) → Serves old new (Ok a) → ReadsKept P old new (Ok a) → ReadsKept Q old new r
 kept_work {A = A} {B = B} old new a r P Q work serves one = record {
   survives = one.survives;
   keeps = one.keeps;
   ok = λ clean inside. let g = one.ok clean inside in goes r g (λ kept. (work (seen old) kept (g.changed.1 kept)).0);
-  sure = λ clean inside free. let kept = free (serves clean inside) in (work (seen old) kept ((one.ok clean inside).changed.1 kept)).1;
+  cause = λ clean inside free. let kept = free (serves clean inside) in memory_faults old new r (work (seen old) kept ((one.ok clean inside).changed.1 kept)).1;
 }
   where
     goes : (r : Result B StoreFault) → Goes old new (λ c d. (d ≡ c) × (IsKeptContent c → P c a)) → (IsKeptContent (seen old) → IfOk r (Q (seen old)))

@@ -1,11 +1,12 @@
 -- What questions inside a transaction come to together, where something holds of what the tables
 -- say.
 -- Nothing here speaks of a statement.
-use Rattle.std.proofs.Common.{◌≡◌, ◌≢◌, Result, Ok, Err, IfOk, IfErr, subst, ◌∙◌}
+use Rattle.std.proofs.Common.{◌≡◌, Result, Ok, Err, IfOk, IfErr, subst, ◌∙◌}
 use Rattle.std.specs.Prelude.{⊤}
 use Rattle.sqlite.specs.State.{State}
 use Rattle.base_faults.specs.declared.store_fault.StoreFault.{StoreFault}
-use Rattle.base_faults.specs.declared.store_fault.StoreFault.TheVariants.{Foreign}
+use Rattle.base_faults.specs.declared.store_fault.StoreFault.TheVariants.{Memory}
+use Rattle.table_schema.proofs.Exports.{memory_faults}
 use Rattle.table_content.specs.Content.{Content}
 use Rattle.table_schema.specs.Steps.{seen, Goes, Reads, Serves}
 use Rattle.table_schema.proofs.StepLemmas.{acts_then, acts_weaker}
@@ -32,12 +33,12 @@ where_more old new r F G P Q free is one =
 
 -- pure work on what an open store answered
 pub where_work : {A B : Type 0} (old new : State) (a : A) (r : Result B StoreFault) (F : Content → Type 0) (P : Content → A → Type 0) (Q : Content → B → Type 0)
-    → ((c : Content) → F c → P c a → IfOk r (Q c) × IfErr r (λ fault. fault ≢ Foreign)) → Serves old new (Ok a) → Reads P old new (Ok a) → ReadsWhere F Q old new r
+    → ((c : Content) → F c → P c a → IfOk r (Q c) × IfErr r (λ fault. fault ≡ Memory)) → Serves old new (Ok a) → Reads P old new (Ok a) → ReadsWhere F Q old new r
 where_work {A = A} {B = B} old new a r F P Q work serves one = record {
   survives = one.survives;
   keeps = one.keeps;
   ok = λ clean inside. let g = one.ok clean inside in goes r g (λ f. (work (seen old) f g.changed.1).0);
-  sure = λ clean inside free. (work (seen old) (free (serves clean inside)) (one.ok clean inside).changed.1).1;
+  cause = λ clean inside free. memory_faults old new r (work (seen old) (free (serves clean inside)) (one.ok clean inside).changed.1).1;
 }
   where
     goes : (r : Result B StoreFault) → Goes old new (λ c d. (d ≡ c) × P c a) → (F (seen old) → IfOk r (Q (seen old)))

@@ -1,12 +1,12 @@
 //! The first head at which the bugs of a set are still found.
 
-ghost use Rattle.std.specs.Prelude.{◌≡◌, ◌≢◌, Some, IfOk, IfErr};
+ghost use Rattle.std.specs.Prelude.{◌≡◌, Some, IfOk, IfErr};
 ghost use Rattle.std.specs.List.{find};
 ghost use Rattle.sqlite.specs.Held.{state};
 ghost use Rattle.version_nodes.specs.Statuses.{status};
 ghost use Rattle.version_nodes.specs.Trees.{heads};
 ghost use Rattle.bug_record.specs.Heads.{is_found};
-ghost use Rattle.base_faults.specs.declared.store_fault.StoreFault.TheVariants.{Foreign};
+ghost use Rattle.base_faults.specs.declared.store_fault.StoreFault.TheVariants.{Memory};
 ghost use Rattle.store_keys.specs.Keys.{key_of};
 ghost use Rattle.table_content.specs.View.{desk_in};
 ghost use Rattle.table_schema.specs.Steps.{Reads, Serves};
@@ -41,7 +41,7 @@ fn read_set_key<S: Alter>(tx: &mut Transaction<'_, S>, image: &SetImage) -> Resu
 // A node that was found.
 fn some_node(node: &Node) -> Result<Option<Node>, StoreFault>
     ensures value { IfOk result (λ found. found ≡ Some node.now) }
-    ensures sure { IfErr result (λ fault. fault ≢ Foreign) }
+    ensures memory { IfErr result (λ fault. fault ≡ Memory) }
 {
     Ok(Some(node.copy()?))
 }
@@ -84,7 +84,7 @@ fn read_first_open<S: Alter>(
 // The heads of the package of the image's bugs, in node order.
 fn heads_of(family: &Family, image: &SetImage) -> Result<Vec<Node>, StoreFault>
     ensures value { IfOk result (λ nodes. nodes.items ≡ heads family.now image.now.shared.«package») }
-    ensures sure { IfErr result (λ fault. fault ≢ Foreign) }
+    ensures memory { IfErr result (λ fault. fault ≡ Memory) }
 {
     let package = image.shared.fields().package.as_str();
     Ok(family.tree().heads(package)?)

@@ -1,8 +1,8 @@
 //! The images of sets.
 
-ghost use Rattle.std.specs.Prelude.{◌≡◌, ◌≢◌, IfOk, IfErr, option_map};
+ghost use Rattle.std.specs.Prelude.{◌≡◌, IfOk, IfErr, option_map};
 ghost use Rattle.sqlite.specs.Held.{state};
-ghost use Rattle.base_faults.specs.declared.store_fault.StoreFault.TheVariants.{Foreign};
+ghost use Rattle.base_faults.specs.declared.store_fault.StoreFault.TheVariants.{Memory};
 ghost use Rattle.table_content.specs.View.{image, shared_of};
 ghost use Rattle.table_schema.specs.Steps.{Reads, Serves};
 ghost use Rattle.table_reads.specs.Kept.{ReadsKept};
@@ -28,7 +28,7 @@ pub struct FoundSet {
 // The fields, to be shared by copies of an image.
 fn agreed(alloc: Global, shared: Shared) -> Result<Agreed, StoreFault>
     ensures value { IfOk result (λ agreed. agreed ≡ shared) }
-    ensures sure { IfErr result (λ fault. fault ≢ Foreign) }
+    ensures memory { IfErr result (λ fault. fault ≡ Memory) }
 {
     Ok(Agreed::of(alloc, shared)?)
 }

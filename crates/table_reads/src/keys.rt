@@ -1,8 +1,8 @@
 //! Keys of sets, as statements take them.
 
-ghost use Rattle.std.specs.Prelude.{◌≡◌, ◌≢◌, ◌<◌, ◌^◌, IfOk, IfErr};
+ghost use Rattle.std.specs.Prelude.{◌≡◌, ◌<◌, ◌^◌, IfOk, IfErr};
 ghost use Rattle.bug_record.specs.Sets.{Each};
-ghost use Rattle.base_faults.specs.declared.store_fault.StoreFault.TheVariants.{Foreign};
+ghost use Rattle.base_faults.specs.declared.store_fault.StoreFault.TheVariants.{Memory};
 
 use base_faults::StoreFault;
 use std::alloc::{AllocError, Global};
@@ -10,7 +10,7 @@ use std::alloc::{AllocError, Global};
 // A key that was read; no set of a desk has one that is no u32.
 pub(crate) fn small_key(key: u64) -> Result<u32, StoreFault>
     ensures value { IfOk result (λ k. k ≡ key) }
-    ensures sure { key < 2 ^ 32 → IfErr result (λ fault. fault ≢ Foreign) }
+    ensures memory { key < 2 ^ 32 → IfErr result (λ fault. fault ≡ Memory) }
 {
     match u32::try_from(key) {
         Ok(key) => Ok(key),
@@ -21,7 +21,7 @@ pub(crate) fn small_key(key: u64) -> Result<u32, StoreFault>
 // The same of several keys.
 pub(crate) fn small_keys(alloc: Global, keys: &[u64]) -> Result<Vec<u32>, StoreFault>
     ensures value { IfOk result (λ ks. ks.items ≡ keys.now) }
-    ensures sure { Each (λ k. k < 2 ^ 32) keys.now → IfErr result (λ fault. fault ≢ Foreign) }
+    ensures memory { Each (λ k. k < 2 ^ 32) keys.now → IfErr result (λ fault. fault ≡ Memory) }
 {
     let mut small = Vec::new(alloc);
     for key in keys {

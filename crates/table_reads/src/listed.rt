@@ -1,6 +1,6 @@
 //! The bugs that are listed for a package at a node.
 
-ghost use Rattle.std.specs.Prelude.{◌≡◌, ◌≢◌, ◌<◌, ◌^◌, ℕ, List, filter, flat_map, IfOk, IfErr, OnOk, if◌then◌else◌};
+ghost use Rattle.std.specs.Prelude.{◌≡◌, ◌<◌, ◌^◌, ℕ, List, filter, flat_map, IfOk, IfErr, OnOk, if◌then◌else◌};
 ghost use Rattle.std.specs.BTreeMap.{get};
 ghost use Rattle.std.specs.List.{AllByRecursion};
 ghost use Rattle.std.specs.List.Sorted.{IsStrictlySortedBy};
@@ -10,7 +10,7 @@ ghost use Rattle.std.specs.Ordering.{nat_cmp};
 ghost use Rattle.sqlite.specs.Held.{state};
 ghost use Rattle.bug_record.specs.Sets.{Each};
 ghost use Rattle.bug_record.specs.Severities.{all_severities};
-ghost use Rattle.base_faults.specs.declared.store_fault.StoreFault.TheVariants.{Foreign};
+ghost use Rattle.base_faults.specs.declared.store_fault.StoreFault.TheVariants.{Memory};
 ghost use Rattle.store_keys.specs.Listing.{is_row_of};
 ghost use Rattle.table_content.specs.Kept.{IsKeptContent};
 ghost use Rattle.table_content.specs.View.{desk_in};
@@ -41,7 +41,7 @@ fn put_bugs(
     members: &[Member],
 ) -> Result<(), StoreFault>
     ensures value { OnOk result ((n : ℕ) → get nat_cmp rows.new n ≡ option_or (row_among fields members.now n) (get nat_cmp rows.old n)) }
-    ensures sure { IfErr result (λ fault. fault ≢ Foreign) }
+    ensures memory { IfErr result (λ fault. fault ≡ Memory) }
 {
     put_rows(rows, fields, members)?;
     Ok(())
@@ -233,7 +233,7 @@ fn read_rows<S: Alter>(
 fn sorted(alloc: Global, rows: BTreeMap<u64, ListRow>) -> Result<Sequence<ListRow>, StoreFault>
     ensures value { IfOk result (λ sorted. sorted ≡ flat_map (λ severity. filter (is_row_of severity) (values_of rows.entries)) all_severities) }
     ensures ordered { IsStrictlySortedBy nat_cmp (keys_of rows.entries) }
-    ensures sure { IfErr result (λ fault. fault ≢ Foreign) }
+    ensures memory { IfErr result (λ fault. fault ≡ Memory) }
 {
     Ok(sorted_rows(alloc, rows)?)
 }

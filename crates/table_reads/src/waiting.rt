@@ -1,10 +1,10 @@
 //! The bugs that wait on a bug.
 
-ghost use Rattle.std.specs.Prelude.{◌≡◌, ◌≢◌, [], IfOk, IfErr, OnOk};
+ghost use Rattle.std.specs.Prelude.{◌≡◌, [], IfOk, IfErr, OnOk};
 ghost use Rattle.sqlite.specs.Held.{state};
 ghost use Rattle.bug_record.specs.Images.{numbers_of};
 ghost use Rattle.bug_record.specs.Sets.{with_items};
-ghost use Rattle.base_faults.specs.declared.store_fault.StoreFault.TheVariants.{Foreign};
+ghost use Rattle.base_faults.specs.declared.store_fault.StoreFault.TheVariants.{Memory};
 ghost use Rattle.table_content.specs.View.{desk_in};
 ghost use Rattle.table_schema.specs.Steps.{Reads, Serves};
 ghost use Rattle.table_sets.specs.Waiting.{AreKeysOf};
@@ -37,7 +37,7 @@ fn waiting_keys<S: Alter>(
 // The numbers of these bugs come into the set.
 fn add_members(numbers: &mut BTreeSet<u64>, members: &[Member]) -> Result<(), StoreFault>
     ensures value { OnOk result (numbers.new.keys ≡ with_items (λ n. n) numbers.old.keys (numbers_of members.now)) }
-    ensures sure { IfErr result (λ fault. fault ≢ Foreign) }
+    ensures memory { IfErr result (λ fault. fault ≡ Memory) }
 {
     for member in members {
         add_number(numbers, member.number)?;
@@ -79,7 +79,7 @@ fn read_sets<S: Alter>(
 // The numbers of the set, ascending.
 fn in_order(alloc: Global, numbers: &BTreeSet<u64>) -> Result<Numbers, StoreFault>
     ensures value { IfOk result (λ listed. listed ≡ numbers.now.keys) }
-    ensures sure { IfErr result (λ fault. fault ≢ Foreign) }
+    ensures memory { IfErr result (λ fault. fault ≡ Memory) }
 {
     Ok(Sequence::in_order(alloc, numbers)?)
 }

@@ -68,8 +68,9 @@ pub use Rattle.table_forms.proofs.AnswerLemmas.{number_at_front}
 pub use Rattle.table_forms.proofs.CreateErrors.{IsSureIndex, IsSureTable, index_free, table_free}
 pub use Rattle.table_forms.proofs.CreateLemmas.{CreatesIndex, CreatesTable, creates, creates_index, still_rows}
 pub use Rattle.table_forms.proofs.DeleteErrors.{rowids_of}
-pub use Rattle.table_forms.proofs.ErrorLemmas.{IsCallOf, IsStoreError, tail_of, width_of}
-pub use Rattle.table_forms.proofs.FailLemmas.{commit_free, query_fault_or_same, stored_free}
+pub use Rattle.table_forms.proofs.ErrorLemmas.{IsCallOf, tail_of, width_of}
+pub use Rattle.table_forms.proofs.FailLemmas.{commit_free, query_fault_or_same}
+pub use Rattle.table_forms.proofs.FaultLemmas.{failed_fault, fault_later, fault_sooner, faults_later, faults_sooner, memory_fault, memory_faults, only_memory}
 pub use Rattle.table_forms.proofs.GreatestLemmas.{greatest_first, same_next}
 pub use Rattle.table_forms.proofs.InsertLemmas.{InsertsRow, inserts}
 pub use Rattle.table_forms.proofs.QueryErrors.{IsPageOf, IsQueryOf, page_free}
@@ -79,7 +80,7 @@ pub use Rattle.table_forms.proofs.RefusalLemmas.{ChangesWell, IsGoodRow, changed
 pub use Rattle.table_forms.proofs.RowLemmas.{all_filter, and_true, hits, holds_text, kept_rows, same_number}
 pub use Rattle.table_forms.proofs.RowsInOrder.{good_at, row_at, take_more}
 pub use Rattle.table_forms.proofs.UpdateLemmas.{UpdatesRows, update_edit, updates_one, updating}
-pub use Rattle.table_forms.specs.Faults.{fault_of, written}
+pub use Rattle.table_forms.specs.Faults.{IsFaultOf, fault_of, written}
 pub use Rattle.table_forms.specs.Forms.{Changes, equals, equals_at, first_of, inserted, passes, query_of}
 pub use Rattle.table_forms.specs.Numbers.{AreGreatest, next_above, number_in, number_row}
 pub use Rattle.sqlite.proofs.Callers.{IsPlain, command_of, one_permutation, reads_as, statement_of}

@@ -7,7 +7,7 @@ pub use Rattle.bug_record.proofs.PackageLemmas.{names-none, same-sorted_names}
 pub use Rattle.bug_record.specs.PackageSets.{has_name, name_cmp, with_name}
 pub use Rattle.bug_record.specs.Sets.{has}
 pub use Rattle.base_faults.specs.declared.store_fault.StoreFault.{StoreFault}
-pub use Rattle.base_faults.specs.declared.store_fault.StoreFault.TheVariants.{Foreign}
+pub use Rattle.base_faults.specs.declared.store_fault.StoreFault.TheVariants.{Memory}
 pub use Rattle.debver.specs.Cut.{IsVersion, cut}
 pub use Rattle.debver.specs.Names.{IsName, in_name, name_fault}
 pub use Rattle.debver.specs.Parts.{IsEpoch, IsRevision, epoch_text, in_revision, in_upstream, revision_text, written}
@@ -36,14 +36,15 @@ pub use Rattle.table_forms.proofs.AnswerLemmas.{number_at, take_next}
 pub use Rattle.table_forms.proofs.ChangeLemmas.{is_index, stays}
 pub use Rattle.table_forms.proofs.DeleteLemmas.{DeletesRows, deletes}
 pub use Rattle.table_forms.proofs.ErrorLemmas.{HasNoReferences, IsCallOf}
-pub use Rattle.table_forms.proofs.FailLemmas.{query_fault_or_same, stored_free}
+pub use Rattle.table_forms.proofs.FailLemmas.{query_fault_or_same}
+pub use Rattle.table_forms.proofs.FaultLemmas.{faults_later, memory_fault, memory_faults}
 pub use Rattle.table_forms.proofs.InsertLemmas.{InsertsRow, IsInserted, inserts}
 pub use Rattle.table_forms.proofs.QueryErrors.{IsQueryOf, query_free}
 pub use Rattle.table_forms.proofs.QueryLemmas.{Finds, finds, found, map_map}
 pub use Rattle.table_forms.proofs.ReadLemmas.{numbers_in_order, shown_open, shown_same}
 pub use Rattle.table_forms.proofs.RefusalLemmas.{IsGoodRow, IsPlainTable, delete_free, insert_free}
 pub use Rattle.table_forms.proofs.RowLemmas.{all_append, and_true, kept_rows, rows_less, rows_more, same_number, truth_is}
-pub use Rattle.table_forms.specs.Faults.{fault_of, told}
+pub use Rattle.table_forms.specs.Faults.{IsFaultOf, fault_of, told}
 pub use Rattle.table_forms.specs.Forms.{Changes, inserted, passes, query_of}
 pub use Rattle.table_forms.specs.Numbers.{number_row, with_number, with_numbers}
 pub use Rattle.table_forms.specs.TypedRows.{AreRows}

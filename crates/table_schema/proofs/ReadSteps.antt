@@ -1,6 +1,6 @@
 -- What several questions inside a transaction come to together.
 -- Nothing here speaks of a statement.
-use Rattle.table_schema.proofs.Imports.{◌≡◌, ◌≢◌, Result, Ok, Err, IfOk, IfErr, refl, subst, ◌∙◌, ⊤, State, StoreFault, Foreign, Content, Acts, Reads}
+use Rattle.table_schema.proofs.Imports.{◌≡◌, Result, Ok, Err, IfOk, IfErr, refl, subst, ◌∙◌, ⊤, State, StoreFault, Memory, Content, Acts, Reads}
 use Rattle.table_schema.proofs.StepLemmas.{done, none, acts_none, acts_stop, acts_then, acts_work, reads_work}
 
 -- nothing was changed, and this is known of what the tables say
@@ -33,7 +33,7 @@ known_stop {A = A} old mid new fault P Q R one two =
 
 -- pure work on what is known
 pub known_answer : {B : Type 0} (old new : State) (r : Result B StoreFault) (P : Content → Type 0) (R : Content → B → Type 0)
-    → ((c : Content) → P c → IfOk r (R c) × IfErr r (λ fault. fault ≢ Foreign)) → Known old new P → Reads R old new r
+    → ((c : Content) → P c → IfOk r (R c) × IfErr r (λ fault. fault ≡ Memory)) → Known old new P → Reads R old new r
 known_answer old new r P R work one = reads_work old new none r (λ _. ⊤) (λ c _. P c) R work one
 
 pub known_weaker : (old new : State) (P Q : Content → Type 0) → ((c : Content) → P c → Q c) → Known old new P → Known old new Q

@@ -1,5 +1,5 @@
 -- What the meaning of a statement's text, with its parameters, makes of a call.
-use Rattle.table_schema.proofs.Imports.{◌≡◌, ◌≢◌, ◌⊎◌, inl, inr, ℕ, List, Result, Ok, Err, IfOk, IfErr, IsTrue, Option, None, Some, sym, ap, subst, ◌∙◌, ⊤, Row, Database, IsDatabase, Error, State, HasCleanDisk, KeepsCommit, Survives, ExecutesInside, IsUnchanged, IsRolledBack, Shown, FailsToQuery, FailsToShow, IsTooLate, IsNotRun, Foreign, fault_of, told, shown_open, shown_same, stored_free, query_fault_or_same, IsQueryOf, query_free, Finds, finds, Term, IsPlain, reads_as, Key, Content, desk_schema, content_of, AreShown, IsInside, seen, Acts, Serves}
+use Rattle.table_schema.proofs.Imports.{◌≡◌, ◌⊎◌, inl, inr, ℕ, List, Result, Ok, Err, IfOk, IfErr, IsTrue, Option, None, Some, sym, ap, subst, ◌∙◌, ⊤, Row, Database, IsDatabase, Error, State, HasCleanDisk, KeepsCommit, Survives, ExecutesInside, IsUnchanged, IsRolledBack, Shown, FailsToQuery, FailsToShow, IsTooLate, IsNotRun, IsFaultOf, fault_of, told, shown_open, shown_same, query_fault_or_same, IsQueryOf, query_free, Finds, finds, Term, IsPlain, reads_as, Key, Content, desk_schema, content_of, AreShown, IsInside, seen, Acts, Serves}
 use Rattle.sqlite_resolve.specs.declared.compiled.Compiled.{Compiled}
 use Rattle.sqlite_schema.specs.declared.command.Returning.{Returning}
 use Rattle.table_forms.specs.Faults.{written}
@@ -16,7 +16,7 @@ pub record Makes (old new : State) (after : Content → Content) : Type 0 where
 -- what a text with these parameters means
 pub record IsWrite (sql : List ℕ) (params : Row) (Free : Content → Type 0) (after : Content → Content) : Type 1 where
   pub makes : (old new : State) (count : ℕ) → IsInside old → ExecutesInside 0 sql params old new (Ok count) → Makes old new after
-  pub free : (old new : State) (e : Error) → IsInside old → (IsTrue old.is_open → Free (seen old)) → ExecutesInside 0 sql params old new (Err e) → fault_of e ≢ Foreign
+  pub free : (old new : State) (e : Error) → IsInside old → (IsTrue old.is_open → Free (seen old)) → ExecutesInside 0 sql params old new (Err e) → IsFaultOf old new (fault_of e)
 
 pub acts_write : (sql : List ℕ) (params : Row) (Free : Content → Type 0) (after : Content → Content) → IsWrite sql params Free after
     → (old new : State) (r : Result ℕ Error) → Survives old new (λ _. ⊥) → (HasCleanDisk new → IsTrue old.in_transaction → ExecutesInside 0 sql params old new r) → Acts old new (written r) Free (λ c d _. d ≡ after c)
@@ -31,13 +31,13 @@ acts_write sql params Free after it old new (Ok count) survives runs = record {
         serves = λ _. h.1.is_open;
         changed = m.content;
       };
-  sure = λ clean inside free. tt;
+  cause = λ clean inside free. tt;
 }
 acts_write sql params Free after it old new (Err e) survives runs = record {
   survives = survives;
   keeps = λ clean inside. kept (runs clean inside.begun);
   ok = λ clean inside. tt;
-  sure = λ clean inside free. it.free old new e inside free (runs clean inside.begun);
+  cause = λ clean inside free. it.free old new e inside free (runs clean inside.begun);
 }
   where
     unchanged : IsUnchanged old new → KeepsCommit old new
@@ -56,7 +56,7 @@ serves_write sql params old new (Err e) runs clean inside = tt
 
 pub record IsRead (sql : List ℕ) (params : Row) (P : Content → List Row → Type 0) : Type 1 where
   pub shows : (old new : State) (rows : List Row) → IsInside old → Shown sql params old new rows → IsUnchanged old new × P (seen old) rows
-  pub free : (old new : State) (e : Error) → IsInside old → FailsToQuery sql params old new e ⊎ IsTooLate sql params old new e → fault_of e ≢ Foreign
+  pub free : (old new : State) (e : Error) → IsInside old → FailsToQuery sql params old new e ⊎ IsTooLate sql params old new e → IsFaultOf old new (fault_of e)
 
 unchanged_keeps : (old new : State) → IsUnchanged old new → KeepsCommit old new
 unchanged_keeps old new h = record { was_open = λ _. h.0.was_open; committed = λ _. h.0.committed_is }
@@ -97,13 +97,13 @@ acts_query items sql params P it old new (Ok rows) survives ok err = record {
         serves = λ _. s.0.0.is_open;
         changed = (ap (λ (d : Database). content_of d.trees) now, s.1);
       };
-  sure = λ clean inside free. tt;
+  cause = λ clean inside free. tt;
 }
 acts_query items sql params P it old new (Err e) survives ok err = record {
   survives = survives;
   keeps = λ clean inside. query_keeps old new sql params e (err clean);
   ok = λ clean inside. tt;
-  sure = λ clean inside free. it.free old new e inside (err clean);
+  cause = λ clean inside free. it.free old new e inside (err clean);
 }
 
 pub serves_query : {A : Type 0} (items : A → List Row) (sql : List ℕ) (params : Row) (old new : State) (r : Result A Error) → (HasCleanDisk new → IfOk r (λ rows. Shown sql params old new (items rows))) → Serves old new (told r)
@@ -122,7 +122,7 @@ reads_inside sql params tree tests shown order names it P says = record {
         says old rows inside live (finds tree tests shown order old.now.trees params rows read.answer),
       );
   free = λ old new e inside h. elim (query_fault_or_same old new sql params e h) [
-    | inl store ↦ stored_free e store
+    | inl store ↦ store
     | inr same ↦ query_free desk_schema sql params tree tests shown order names it old new (inside.schema same.0.was_open) inside.unlimited e h
   ];
 }

@@ -1,6 +1,6 @@
 -- What calls inside a transaction come to together.
 -- Nothing here speaks of a statement.
-use Rattle.table_schema.proofs.Imports.{◌≡◌, ◌≢◌, inl, ℕ, ◌+◌, ◌<◌, suc, add-one, length, drop, get_or, drop-cons, ◌≤◌, map, flat_map, List, [], ◌∷◌, ◌++◌, Result, Ok, Err, IfOk, IfErr, arith, refl, sym, ap, subst, ◌∙◌, ⊤, State, HasCleanDisk, Survives, StoreFault, Foreign, Content, edited, edited_all, IsFree, AreFree, Edit, IsInside, seen, Goes, Acts, Serves, Plays, PlaysAll}
+use Rattle.table_schema.proofs.Imports.{◌≡◌, inl, ℕ, ◌+◌, ◌<◌, suc, add-one, length, drop, get_or, drop-cons, ◌≤◌, map, flat_map, List, [], ◌∷◌, ◌++◌, Result, Ok, Err, IfOk, IfErr, arith, refl, sym, ap, subst, ◌∙◌, ⊤, State, HasCleanDisk, Survives, StoreFault, Memory, faults_later, memory_fault, memory_faults, Content, edited, edited_all, IsFree, AreFree, Edit, IsInside, seen, Goes, Acts, Serves, Plays, PlaysAll}
 use Rattle.std.proofs.Math.ListN.{drop_of_length-le}
 use Rattle.sqlite.proofs.InsideLemmas.{keeps_then}
 use Rattle.sqlite.proofs.StateLemmas.{survives_then}
@@ -15,22 +15,22 @@ acts_none s a Free P same = record {
   survives = survives_stay s;
   keeps = λ clean inside. record { was_open = λ o. o; committed = λ _. refl };
   ok = λ clean inside. record { inside = inside; serves = λ o. o; changed = same (seen s) };
-  sure = λ clean inside free. tt;
+  cause = λ clean inside free. tt;
 }
 
--- nothing is called, since it can't be done
-pub acts_unable : {A : Type 0} (s : State) (fault : StoreFault) (Free : Content → Type 0) (P : Content → Content → A → Type 0) → fault ≢ Foreign → Acts {A = A} s s (Err fault) Free P
-acts_unable s fault Free P other = record {
+-- nothing is called, for want of memory
+pub acts_unable : {A : Type 0} (s : State) (fault : StoreFault) (Free : Content → Type 0) (P : Content → Content → A → Type 0) → fault ≡ Memory → Acts {A = A} s s (Err fault) Free P
+acts_unable s fault Free P is = record {
   survives = survives_stay s;
   keeps = λ clean inside. record { was_open = λ o. o; committed = λ _. refl };
   ok = λ clean inside. tt;
-  sure = λ clean inside free. other;
+  cause = λ clean inside free. memory_fault s s fault is;
 }
 
 -- the call failed, and with it the step
 pub acts_stop : {A B : Type 0} (old new : State) (fault : StoreFault) (F G : Content → Type 0) (P : Content → Content → A → Type 0) (Q : Content → Content → B → Type 0)
     → ((c : Content) → G c → F c) → Acts {A = A} old new (Err fault) F P → Acts {A = B} old new (Err fault) G Q
-acts_stop old new fault F G P Q weaker h = record { survives = h.survives; keeps = h.keeps; ok = λ clean inside. tt; sure = λ clean inside free. h.sure clean inside (λ o. weaker _ (free o)) }
+acts_stop old new fault F G P Q weaker h = record { survives = h.survives; keeps = h.keeps; ok = λ clean inside. tt; cause = λ clean inside free. h.cause clean inside (λ o. weaker _ (free o)) }
 
 module _ {A B : Type 0} (old mid new : State) (a : A) (F G H : Content → Type 0) (P : Content → Content → A → Type 0) (Q : Content → Content → B → Type 0) (R : Content → Content → B → Type 0) where
   -- one call after another
@@ -40,7 +40,7 @@ module _ {A B : Type 0} (old mid new : State) (a : A) (F G H : Content → Type 
     survives = survives_then old mid new _ _ (λ _. ⊥) (λ _ db none. none) (λ _ db none. none) one.survives two.survives;
     keeps = λ clean inside. keeps_then old mid new (one.keeps (early clean) inside) (two.keeps clean (went clean inside).inside);
     ok = λ clean inside. goes r (went clean inside) (two.ok clean (went clean inside).inside);
-    sure = λ clean inside all. two.sure clean (went clean inside).inside (λ o. free _ _ (went clean inside).changed (all ((one.keeps (early clean) inside).was_open o)));
+    cause = λ clean inside all. faults_later old mid new _ _ one.survives two.survives (early clean) r (two.cause clean (went clean inside).inside (λ o. free _ _ (went clean inside).changed (all ((one.keeps (early clean) inside).was_open o))));
   }
     where
       early : HasCleanDisk new → HasCleanDisk mid
@@ -55,7 +55,7 @@ module _ {A B : Type 0} (old mid new : State) (a : A) (F G H : Content → Type 
 
 pub acts_weaker : {A : Type 0} (old new : State) (r : Result A StoreFault) (F G : Content → Type 0) (P Q : Content → Content → A → Type 0) → ((c : Content) → G c → F c) → ((c d : Content) (a : A) → P c d a → Q c d a)
     → Acts old new r F P → Acts old new r G Q
-acts_weaker old new r F G P Q free weaker h = record { survives = h.survives; keeps = h.keeps; ok = λ clean inside. goes r (h.ok clean inside); sure = λ clean inside all. h.sure clean inside (λ o. free _ (all o)) }
+acts_weaker old new r F G P Q free weaker h = record { survives = h.survives; keeps = h.keeps; ok = λ clean inside. goes r (h.ok clean inside); cause = λ clean inside all. h.cause clean inside (λ o. free _ (all o)) }
   where
     goes : (r : Result _ StoreFault) → IfOk r (λ a. Goes old new (λ c d. P c d a)) → IfOk r (λ a. Goes old new (λ c d. Q c d a))
     goes (Ok a) g = record { inside = g.inside; serves = g.serves; changed = weaker _ _ a g.changed }
@@ -63,12 +63,12 @@ acts_weaker old new r F G P Q free weaker h = record { survives = h.survives; ke
 
 -- pure work on what a call answered
 pub acts_work : {A B : Type 0} (old new : State) (a : A) (r : Result B StoreFault) (F : Content → Type 0) (P : Content → Content → A → Type 0) (Q : Content → Content → B → Type 0)
-    → ((c d : Content) → P c d a → IfOk r (Q c d) × IfErr r (λ fault. fault ≢ Foreign)) → Acts old new (Ok a) F P → Acts old new r F Q
+    → ((c d : Content) → P c d a → IfOk r (Q c d) × IfErr r (λ fault. fault ≡ Memory)) → Acts old new (Ok a) F P → Acts old new r F Q
 acts_work old new a r F P Q work h = record {
   survives = h.survives;
   keeps = h.keeps;
   ok = λ clean inside. let g = h.ok clean inside in goes r g (work _ _ g.changed).0;
-  sure = λ clean inside free. (work _ _ (h.ok clean inside).changed).1;
+  cause = λ clean inside free. memory_faults old new r (work _ _ (h.ok clean inside).changed).1;
 }
   where
     goes : (r : Result _ StoreFault) → Goes old new (λ c d. P c d a) → IfOk r (Q (seen old) (seen new)) → IfOk r (λ b. Goes old new (λ c d. Q c d b))
@@ -81,7 +81,7 @@ both Q (Err e) x q = tt
 
 -- the same of a question
 pub reads_work : {A B : Type 0} (old new : State) (a : A) (r : Result B StoreFault) (F : Content → Type 0) (P : Content → A → Type 0) (Q : Content → B → Type 0)
-    → ((c : Content) → P c a → IfOk r (Q c) × IfErr r (λ fault. fault ≢ Foreign)) → Acts old new (Ok a) F (λ c d a. (d ≡ c) × P c a) → Acts old new r F (λ c d b. (d ≡ c) × Q c b)
+    → ((c : Content) → P c a → IfOk r (Q c) × IfErr r (λ fault. fault ≡ Memory)) → Acts old new (Ok a) F (λ c d a. (d ≡ c) × P c a) → Acts old new r F (λ c d b. (d ≡ c) × Q c b)
 reads_work old new a r F P Q work h = acts_work old new a r F _ _ (λ c d p. let w = work c p.1 in (both (Q c) r p.0 w.0, w.1)) h
 
 -- ---- edits

@@ -1,6 +1,6 @@
 -- One table of a desk, whatever its rows are: what a statement that adds a row or leaves rows out
 -- makes of all that the tables say.
-use Rattle.table_schema.proofs.Imports.{◌≡◌, ◌≢◌, ℕ, ℤ, pos, ◌<◌, ◌/◌, List, [], ◌∷◌, ◌++◌, length, map, filter, Bool, true, false, not, ◌&&◌, eqb, if◌then◌else◌, slice_get, Some, Ok, Err, IsTrue, refl, sym, ap, subst, ◌∙◌, eq-eqb, AllByRecursion, list_any, list_all, Insert, Delete, next_rowid, is_taken, value_rows, Row, State, ExecutesInside, Table, Term, col, eval_all, Trees, IsTable, put_row, rowid, Error, Int, agree, clashes, guards, Index, with_tree, IsAscending, accepts_terms, accepts_program, Foreign, fault_of, Changes, inserted, passes, query_of, AreRows, InsertsRow, IsInserted, inserts, DeletesRows, deletes, IsCallOf, IsPlainTable, IsGoodRow, insert_free, delete_free, rows_more, rows_less, same_number, Content, edited, placed, IsFree, Edit, desk_schema, content_of, AreShown, IsInside, seen}
+use Rattle.table_schema.proofs.Imports.{◌≡◌, ℕ, ℤ, pos, ◌<◌, ◌/◌, List, [], ◌∷◌, ◌++◌, length, map, filter, Bool, true, false, not, ◌&&◌, eqb, if◌then◌else◌, slice_get, Some, Ok, Err, IsTrue, refl, sym, ap, subst, ◌∙◌, eq-eqb, AllByRecursion, list_any, list_all, Insert, Delete, next_rowid, is_taken, value_rows, Row, State, ExecutesInside, Table, Term, col, eval_all, Trees, IsTable, put_row, rowid, Error, Int, agree, clashes, guards, Index, with_tree, IsAscending, accepts_terms, accepts_program, IsFaultOf, fault_of, Changes, inserted, passes, query_of, AreRows, InsertsRow, IsInserted, inserts, DeletesRows, deletes, IsCallOf, IsPlainTable, IsGoodRow, insert_free, delete_free, rows_more, rows_less, same_number, Content, edited, placed, IsFree, Edit, desk_schema, content_of, AreShown, IsInside, seen}
 use Rattle.sqlite.specs.Rowids.TheVariants.{Chosen}
 use Rattle.sqlite.specs.Source.TheVariants.{Values}
 use Rattle.sqlite_rules.proofs.PlaceLemmas.{next_is_free}
@@ -113,7 +113,7 @@ module _ {T : Type 0} (t : DeskTable T) (sql : List ℕ) (params : Row) (terms :
   free_of : (old new : State) (why : Error) → IsInside old → Inserts → (cells : Row) → inserted t.place.table (old.now.trees t.place.table.tree) terms params ≡ cells → IsGoodRow desk_schema t.place.table cells
       → (IsTrue old.is_open → is_taken (old.now.trees t.place.table.tree) cells ≡ false)
       → (IsTrue old.is_open → are_unique desk_schema.indexes (with_tree old.now.trees t.place.table.tree (put_row cells (old.now.trees t.place.table.tree))) t.place.table (cells ∷ []) ≡ true)
-      → ExecutesInside 0 sql params old new (Err why) → fault_of why ≢ Foreign
+      → ExecutesInside 0 sql params old new (Err why) → IsFaultOf old new (fault_of why)
   free_of old new why inside it cells is kept fresh apart =
       let rows = old.now.trees t.place.table.tree in
       insert_free desk_schema sql t.place.at t.place.table terms (inserts_row it) t.place.is_plain params it.call it.typed old new why inside.unlimited inside.schema (unique_at old inside)
@@ -166,7 +166,7 @@ module _ {T : Type 0} (k : KeyedTable T) (sql : List ℕ) (params : Row) (terms 
           let put = (puts t sql params terms old new count inside it.text (t.row.cells (it.new id)) (it.is rows) h).changes in
           makes_rows t old new _ put shown (rows_more t.row.cells t.row.IsGood rows (it.new id) (it.own id) (it.good id) are) (edited e) (it.more are.items id)
 
-      free : (old new : State) (why : Error) → IsInside old → (IsTrue old.is_open → IsFree e (seen old)) → ExecutesInside 0 sql params old new (Err why) → fault_of why ≢ Foreign
+      free : (old new : State) (why : Error) → IsInside old → (IsTrue old.is_open → IsFree e (seen old)) → ExecutesInside 0 sql params old new (Err why) → IsFaultOf old new (fault_of why)
       free old new why inside none_there =
           let rows = old.now.trees t.place.table.tree in
           let id = next_rowid rows in
@@ -215,7 +215,7 @@ module _ {T : Type 0} (t : DeskTable T) (number : T → ℕ) (ids : (x : T) → 
           let up = rises old shown in
           makes_rows t old new _ put.changes shown (rows_placed t.row.cells t.row.IsGood number ids rows x put.fresh it.good are) (edited e) (λ c. it.more are.items c up apart)
 
-      free : (old new : State) (why : Error) → IsInside old → (IsTrue old.is_open → IsFree e (seen old)) → ExecutesInside 0 sql params old new (Err why) → fault_of why ≢ Foreign
+      free : (old new : State) (why : Error) → IsInside old → (IsTrue old.is_open → IsFree e (seen old)) → ExecutesInside 0 sql params old new (Err why) → IsFaultOf old new (fault_of why)
       free old new why inside none_there =
           let rows = old.now.trees t.place.table.tree in
           let x = t.row.cells it.new in

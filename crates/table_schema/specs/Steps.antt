@@ -1,9 +1,9 @@
 -- What a call inside a transaction leaves and answers.
-use Rattle.std.specs.Prelude.{◌≡◌, ◌≢◌, ⊤, IfOk, IfErr, Result, IsTrue, None, List}
+use Rattle.std.specs.Prelude.{◌≡◌, ⊤, IfOk, IfErr, Result, IsTrue, None, List}
 use Rattle.sqlite.specs.Effect.{IsDatabase}
 use Rattle.sqlite.specs.State.{State, HasCleanDisk, KeepsCommit, Survives}
 use Rattle.base_faults.specs.declared.store_fault.StoreFault.{StoreFault}
-use Rattle.base_faults.specs.declared.store_fault.StoreFault.TheVariants.{Foreign}
+use Rattle.table_forms.specs.Faults.{IsFaultOf}
 use Rattle.table_content.specs.Content.{Content}
 use Rattle.table_content.specs.Edits.{edited, edited_all}
 use Rattle.table_content.specs.Free.{IsFree, AreFree}
@@ -30,13 +30,13 @@ pub record Goes (old new : State) (Q : Content → Content → Type 0) : Type 0 
   pub changed : Q (seen old) (seen new)
 
 -- A call goes from old to new inside a transaction: nothing is committed; an answer is one of which
--- P holds, with what the tables said before and say now; and where Free holds of what they said, it
--- fails for memory, the disk or its size alone.
+-- P holds, with what the tables said before and say now; and where Free holds of what they said, a
+-- fault has its cause.
 pub record Acts {A : Type 0} (old new : State) (result : Result A StoreFault) (Free : Content → Type 0) (P : Content → Content → A → Type 0) : Type 0 where
   pub survives : Survives old new (λ _. ⊥)
   pub keeps : HasCleanDisk new → IsInside old → KeepsCommit old new
   pub ok : HasCleanDisk new → IsInside old → IfOk result (λ a. Goes old new (λ c d. P c d a))
-  pub sure : HasCleanDisk new → IsInside old → (IsTrue old.is_open → Free (seen old)) → IfErr result (λ fault. fault ≢ Foreign)
+  pub cause : HasCleanDisk new → IsInside old → (IsTrue old.is_open → Free (seen old)) → IfErr result (IsFaultOf old new)
 
 -- a call that answered found the store open
 abbrev pub Serves : {A : Type 0} → State → State → Result A StoreFault → Type 0

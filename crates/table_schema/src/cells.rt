@@ -1,13 +1,13 @@
 //! Cells of a row as numbers, texts and nodes.
 
-ghost use Rattle.std.specs.Prelude.{◌≡◌, ◌≢◌, ◌<◌, ◌+◌, ℕ, pos, true, List, length, Option, IfOk, IfErr};
+ghost use Rattle.std.specs.Prelude.{◌≡◌, ◌<◌, ◌+◌, ℕ, pos, true, List, length, Option, IfOk, IfErr};
 ghost use Rattle.std.specs.Str.{IsUtf8};
 ghost use Rattle.sqlite.specs.Order.{column};
 ghost use Rattle.sqlite.specs.Values.{or_null};
 ghost use Rattle.sqlite.specs.declared.types.Value.TheVariants.{Int, Text as TextCell, Blob};
 ghost use Rattle.version_nodes.specs.Nodes.{Node as SeenNode, IsNode};
 ghost use Rattle.base_words.specs.Texts.{IfGiven};
-ghost use Rattle.base_faults.specs.declared.store_fault.StoreFault.TheVariants.{Foreign};
+ghost use Rattle.base_faults.specs.declared.store_fault.StoreFault.TheVariants.{Memory};
 
 use crate::faults::fault_of;
 use base_faults::StoreFault;
@@ -20,7 +20,7 @@ use version_nodes::{Node, NodeFault};
 /// The number in a cell, counted from 0; one below 0 can't be read.
 pub fn number_at(row: &Row, at: usize) -> Result<u64, StoreFault>
     ensures value { (n : ℕ) → column row.now at ≡ Int (pos n) → IfOk result (λ v. v ≡ n) }
-    ensures sure { (n : ℕ) → at < length row.now → column row.now at ≡ Int (pos n) → IfErr result (λ fault. fault ≢ Foreign) }
+    ensures memory { (n : ℕ) → at < length row.now → column row.now at ≡ Int (pos n) → IfErr result (λ fault. fault ≡ Memory) }
 {
     match row.get::<u64>(at) {
         Ok(number) => Ok(number),
@@ -31,8 +31,8 @@ pub fn number_at(row: &Row, at: usize) -> Result<u64, StoreFault>
 /// The number in a cell, counted from 0, if it has one; one below 0 can't be read.
 pub fn maybe_number_at(row: &Row, at: usize) -> Result<Option<u64>, StoreFault>
     ensures value { (n : Option ℕ) → column row.now at ≡ or_null (λ k. Int (pos k)) n → IfOk result (λ v. v ≡ n) }
-    ensures sure { (n : Option ℕ) → at < length row.now → column row.now at ≡ or_null (λ k. Int (pos k)) n →
-        IfErr result (λ fault. fault ≢ Foreign) }
+    ensures memory { (n : Option ℕ) → at < length row.now → column row.now at ≡ or_null (λ k. Int (pos k)) n →
+        IfErr result (λ fault. fault ≡ Memory) }
 {
     match row.get::<Option<u64>>(at) {
         Ok(number) => Ok(number),
@@ -43,7 +43,7 @@ pub fn maybe_number_at(row: &Row, at: usize) -> Result<Option<u64>, StoreFault>
 // A text that is kept.
 fn kept(alloc: Global, text: &str) -> Result<Text, StoreFault>
     ensures value { IfOk result (λ t. t ≡ text.now) }
-    ensures sure { IfErr result (λ fault. fault ≢ Foreign) }
+    ensures memory { IfErr result (λ fault. fault ≡ Memory) }
 {
     match Text::of(alloc, text) {
         Ok(text) => Ok(text),
@@ -54,7 +54,7 @@ fn kept(alloc: Global, text: &str) -> Result<Text, StoreFault>
 // The text in a cell, counted from 0, where it stands; one that is no UTF-8 can't be read.
 fn str_at(row: &Row, at: usize) -> Result<&str, StoreFault>
     ensures value { (t : List ℕ) → column row.now at ≡ TextCell t → IfOk result (λ v. v.now ≡ t) }
-    ensures sure { (t : List ℕ) → at < length row.now → column row.now at ≡ TextCell t → IsUtf8 t → IfErr result (λ fault. fault ≢ Foreign) }
+    ensures memory { (t : List ℕ) → at < length row.now → column row.now at ≡ TextCell t → IsUtf8 t → IfErr result (λ fault. fault ≡ Memory) }
 {
     match row.get_ref(at) {
         Ok(ValueRef::Text(bytes)) => match std::str::from_utf8(bytes) {
@@ -69,7 +69,7 @@ fn str_at(row: &Row, at: usize) -> Result<&str, StoreFault>
 /// The text in a cell, counted from 0; one that is no UTF-8 can't be read.
 pub fn text_at(alloc: Global, row: &Row, at: usize) -> Result<Text, StoreFault>
     ensures value { (t : List ℕ) → column row.now at ≡ TextCell t → IfOk result (λ v. v ≡ t) }
-    ensures sure { (t : List ℕ) → at < length row.now → column row.now at ≡ TextCell t → IsUtf8 t → IfErr result (λ fault. fault ≢ Foreign) }
+    ensures memory { (t : List ℕ) → at < length row.now → column row.now at ≡ TextCell t → IsUtf8 t → IfErr result (λ fault. fault ≡ Memory) }
 {
     match str_at(row, at) {
         Ok(found) => kept(alloc, found),
@@ -80,8 +80,8 @@ pub fn text_at(alloc: Global, row: &Row, at: usize) -> Result<Text, StoreFault>
 /// The text in a cell, counted from 0, if it has one; one that is no UTF-8 can't be read.
 pub fn maybe_text_at(alloc: Global, row: &Row, at: usize) -> Result<Option<Text>, StoreFault>
     ensures value { (t : Option (List ℕ)) → column row.now at ≡ or_null TextCell t → IfOk result (λ v. v ≡ t) }
-    ensures sure { (t : Option (List ℕ)) → at < length row.now → column row.now at ≡ or_null TextCell t → IfGiven IsUtf8 t →
-        IfErr result (λ fault. fault ≢ Foreign) }
+    ensures memory { (t : Option (List ℕ)) → at < length row.now → column row.now at ≡ or_null TextCell t → IfGiven IsUtf8 t →
+        IfErr result (λ fault. fault ≡ Memory) }
 {
     match row.get::<Option<String>>(at) {
         Ok(Some(text)) => match kept(alloc, text.as_str()) {
@@ -96,7 +96,7 @@ pub fn maybe_text_at(alloc: Global, row: &Row, at: usize) -> Result<Option<Text>
 // The text of these bytes; where they are no UTF-8 they are no desk's.
 fn text_of(alloc: Global, bytes: &[u8]) -> Result<Text, StoreFault>
     ensures value { IfOk result (λ t. t ≡ bytes.now) }
-    ensures sure { IsUtf8 bytes.now → IfErr result (λ fault. fault ≢ Foreign) }
+    ensures memory { IsUtf8 bytes.now → IfErr result (λ fault. fault ≡ Memory) }
 {
     match std::str::from_utf8(bytes) {
         Ok(text) => kept(alloc, text),
@@ -107,7 +107,7 @@ fn text_of(alloc: Global, bytes: &[u8]) -> Result<Text, StoreFault>
 /// The text whose bytes are in a cell, counted from 0; bytes that are no UTF-8 can't be read.
 pub fn bytes_text_at(alloc: Global, row: &Row, at: usize) -> Result<Text, StoreFault>
     ensures value { (t : List ℕ) → column row.now at ≡ Blob t → IfOk result (λ v. v ≡ t) }
-    ensures sure { (t : List ℕ) → at < length row.now → column row.now at ≡ Blob t → IsUtf8 t → IfErr result (λ fault. fault ≢ Foreign) }
+    ensures memory { (t : List ℕ) → at < length row.now → column row.now at ≡ Blob t → IsUtf8 t → IfErr result (λ fault. fault ≡ Memory) }
 {
     match row.get::<Vec<u8>>(at) {
         Ok(bytes) => text_of(alloc, bytes.as_slice()),
@@ -138,7 +138,7 @@ pub fn is_text_at(row: &Row, at: usize, text: &str) -> bool
 // The node of two texts.
 fn node_of(alloc: Global, source: &str, version: &str) -> Result<Node, StoreFault>
     ensures value { (v : SeenNode) → IsNode v → source.now ≡ v.source → version.now ≡ v.version → IfOk result (λ node. node ≡ v) }
-    ensures sure { (v : SeenNode) → IsNode v → source.now ≡ v.source → version.now ≡ v.version → IfErr result (λ fault. fault ≢ Foreign) }
+    ensures memory { (v : SeenNode) → IsNode v → source.now ≡ v.source → version.now ≡ v.version → IfErr result (λ fault. fault ≡ Memory) }
 {
     match Node::at(alloc, source, version) {
         Ok(node) => Ok(node),
@@ -153,8 +153,8 @@ pub fn node_at(alloc: Global, row: &Row, at: usize) -> Result<Node, StoreFault>
     requires { at < 100 }
     ensures value { (v : SeenNode) → IsNode v → column row.now at ≡ TextCell v.source → column row.now (at + 1) ≡ TextCell v.version →
         IfOk result (λ node. node ≡ v) }
-    ensures sure { (v : SeenNode) → at + 1 < length row.now → IsNode v → column row.now at ≡ TextCell v.source →
-        column row.now (at + 1) ≡ TextCell v.version → IfErr result (λ fault. fault ≢ Foreign) }
+    ensures memory { (v : SeenNode) → at + 1 < length row.now → IsNode v → column row.now at ≡ TextCell v.source →
+        column row.now (at + 1) ≡ TextCell v.version → IfErr result (λ fault. fault ≡ Memory) }
 {
     let source = match str_at(row, at) {
         Ok(source) => source,

@@ -7,18 +7,20 @@ use base_faults::StoreFault;
 use sqlite::{Error, ErrorCode};
 
 /// The fault that an error of the database is told as: no memory, a device that failed or holds
-/// what can't be read, no room, or, for all else, tables that are no desk's.
+/// what can't be read, no room on the disk, or, for all else, tables that are no desk's.
+/// A row that is too long for the database, or finds no rowid, is told as no memory: nothing of the
+/// store has failed.
 pub fn fault_of(error: &Error) -> StoreFault
     ensures fault { result ≡ faults.fault_of error.now }
 {
     match error {
-        Error::SqliteFailure(ErrorCode::OutOfMemory) => StoreFault::Memory,
+        Error::SqliteFailure(ErrorCode::OutOfMemory | ErrorCode::TooBig | ErrorCode::NoRowid) => {
+            StoreFault::Memory
+        }
         Error::SqliteFailure(
             ErrorCode::SystemIoFailure | ErrorCode::DatabaseCorrupt | ErrorCode::Closed,
         ) => StoreFault::Device,
-        Error::SqliteFailure(ErrorCode::DiskFull | ErrorCode::TooBig | ErrorCode::NoRowid) => {
-            StoreFault::Full
-        }
+        Error::SqliteFailure(ErrorCode::DiskFull) => StoreFault::Full,
         _ => StoreFault::Foreign,
     }
 }

@@ -1,12 +1,12 @@
 //! The packages that sets affect.
 
-ghost use Rattle.std.specs.Prelude.{◌≡◌, ◌≢◌, ℕ, List, [], map, IfOk, IfErr, OnOk};
+ghost use Rattle.std.specs.Prelude.{◌≡◌, ℕ, List, [], map, IfOk, IfErr, OnOk};
 ghost use Rattle.std.specs.List.{AllByRecursion};
 ghost use Rattle.std.specs.Str.{IsUtf8};
 ghost use Rattle.sqlite.specs.Held.{state};
 ghost use Rattle.bug_record.specs.Ordered.{with_each};
 ghost use Rattle.bug_record.specs.PackageSets.{name_cmp, with_name};
-ghost use Rattle.base_faults.specs.declared.store_fault.StoreFault.TheVariants.{Foreign};
+ghost use Rattle.base_faults.specs.declared.store_fault.StoreFault.TheVariants.{Memory};
 ghost use Rattle.table_content.specs.declared.edit.Edit.TheVariants.{PutAffects, DropAffects};
 ghost use Rattle.table_schema.specs.Steps.{Plays, Reads, Serves};
 ghost use Rattle.table_forms.specs.Numbers.{number_row};
@@ -58,7 +58,7 @@ fn name_rows<S: Alter>(tx: &mut Transaction<'_, S>, key: u32) -> Result<Vec<Row>
 // One more package.
 fn add_name(names: &mut Names, name: Text) -> Result<(), StoreFault>
     ensures value { OnOk result (names.new ≡ with_name names.old name) }
-    ensures sure { IfErr result (λ fault. fault ≢ Foreign) }
+    ensures memory { IfErr result (λ fault. fault ≡ Memory) }
 {
     names.add_ordered(name)?;
     Ok(())
@@ -67,7 +67,7 @@ fn add_name(names: &mut Names, name: Text) -> Result<(), StoreFault>
 // The package of one more row.
 fn add_row(alloc: Global, names: &mut Names, row: &Row) -> Result<(), StoreFault>
     ensures value { (n : List ℕ) → IsUtf8 n → row.now ≡ text_row n → OnOk result (names.new ≡ with_name names.old n) }
-    ensures sure { (n : List ℕ) → IsUtf8 n → row.now ≡ text_row n → IfErr result (λ fault. fault ≢ Foreign) }
+    ensures memory { (n : List ℕ) → IsUtf8 n → row.now ≡ text_row n → IfErr result (λ fault. fault ≡ Memory) }
 {
     let name = text_at(alloc, row, 0)?;
     add_name(names, name)
@@ -76,7 +76,7 @@ fn add_row(alloc: Global, names: &mut Names, row: &Row) -> Result<(), StoreFault
 // The packages of rows, in the order of their bytes.
 fn names_of(alloc: Global, rows: &[Row]) -> Result<Names, StoreFault>
     ensures value { (ns : List (List ℕ)) → AllByRecursion IsUtf8 ns → rows.now ≡ map text_row ns → IfOk result (λ names. names ≡ with_each name_cmp [] ns) }
-    ensures sure { (ns : List (List ℕ)) → AllByRecursion IsUtf8 ns → rows.now ≡ map text_row ns → IfErr result (λ fault. fault ≢ Foreign) }
+    ensures memory { (ns : List (List ℕ)) → AllByRecursion IsUtf8 ns → rows.now ≡ map text_row ns → IfErr result (λ fault. fault ≡ Memory) }
 {
     let mut names = Sequence::new(alloc);
     for row in rows {

@@ -1,10 +1,10 @@
 //! The bugs of sets.
 
-ghost use Rattle.std.specs.Prelude.{◌≡◌, ◌≢◌, true, List, [], ◌∷◌, IfOk, IfErr};
+ghost use Rattle.std.specs.Prelude.{◌≡◌, true, List, [], ◌∷◌, IfOk, IfErr};
 ghost use Rattle.std.specs.Option.{option_map_or};
 ghost use Rattle.sqlite.specs.Held.{state};
 ghost use Rattle.bug_record.specs.declared.bug.Member.{Member as SeenMember};
-ghost use Rattle.base_faults.specs.declared.store_fault.StoreFault.TheVariants.{Foreign};
+ghost use Rattle.base_faults.specs.declared.store_fault.StoreFault.TheVariants.{Memory};
 ghost use Rattle.table_content.specs.declared.edit.Edit.TheVariants.{PutMember, DropMember};
 ghost use Rattle.table_schema.specs.Steps.{Plays, Reads, Serves};
 ghost use Rattle.table_forms.specs.Numbers.{number_row};
@@ -85,7 +85,7 @@ fn member_rows<S: Alter>(tx: &mut Transaction<'_, S>, key: u32) -> Result<Vec<Ro
 // The bug of a row.
 fn member_in(alloc: Global, row: &Row) -> Result<Member, StoreFault>
     ensures value { (m : SeenMember) → row.now ≡ member_row m → IfOk result (λ member. member ≡ m) }
-    ensures sure { (m : SeenMember) → row.now ≡ member_row m → HasUtf8 m → IfErr result (λ fault. fault ≢ Foreign) }
+    ensures memory { (m : SeenMember) → row.now ≡ member_row m → HasUtf8 m → IfErr result (λ fault. fault ≡ Memory) }
 {
     let number = number_at(row, 0)?;
     let title = text_at(alloc, row, 1)?;
@@ -100,7 +100,7 @@ fn member_in(alloc: Global, row: &Row) -> Result<Member, StoreFault>
 // The bugs of rows, in their order.
 fn members_of(alloc: Global, rows: &[Row]) -> Result<Sequence<Member>, StoreFault>
     ensures value { (ms : List SeenMember) → AreMemberRows rows.now ms → IfOk result (λ members. members ≡ ms) }
-    ensures sure { (ms : List SeenMember) → AreMemberRows rows.now ms → IfErr result (λ fault. fault ≢ Foreign) }
+    ensures memory { (ms : List SeenMember) → AreMemberRows rows.now ms → IfErr result (λ fault. fault ≡ Memory) }
 {
     let mut members = Sequence::new(alloc);
     for row in rows {
@@ -116,7 +116,7 @@ fn members_of(alloc: Global, rows: &[Row]) -> Result<Sequence<Member>, StoreFaul
 // The bugs of rows, to be shared.
 fn shared_members(alloc: Global, rows: &[Row]) -> Result<Members, StoreFault>
     ensures value { (ms : List SeenMember) → AreMemberRows rows.now ms → IfOk result (λ members. members ≡ ms) }
-    ensures sure { (ms : List SeenMember) → AreMemberRows rows.now ms → IfErr result (λ fault. fault ≢ Foreign) }
+    ensures memory { (ms : List SeenMember) → AreMemberRows rows.now ms → IfErr result (λ fault. fault ≡ Memory) }
 {
     match Members::of(members_of(alloc, rows)?) {
         Ok(members) => Ok(members),

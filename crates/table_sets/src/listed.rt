@@ -1,8 +1,8 @@
 //! The sets of a package, as a list asks for them.
 
-ghost use Rattle.std.specs.Prelude.{◌≡◌, ◌≢◌, List, map, IfOk, IfErr};
+ghost use Rattle.std.specs.Prelude.{◌≡◌, List, map, IfOk, IfErr};
 ghost use Rattle.sqlite.specs.Held.{state};
-ghost use Rattle.base_faults.specs.declared.store_fault.StoreFault.TheVariants.{Foreign};
+ghost use Rattle.base_faults.specs.declared.store_fault.StoreFault.TheVariants.{Memory};
 ghost use Rattle.table_schema.specs.Steps.{Reads, Serves};
 ghost use Rattle.table_sets.specs.Listed.{AreSetsOf};
 ghost use Rattle.table_sets.specs.SetAnswers.{listed_row};
@@ -45,7 +45,7 @@ fn listed_rows<S: Alter>(tx: &mut Transaction<'_, S>, package: &str) -> Result<V
 // The set of a row.
 fn set_in(row: &Row) -> Result<ListedSet, StoreFault>
     ensures value { (s : SeenSet) → row.now ≡ listed_row s → IfOk result (λ set. set ≡ s) }
-    ensures sure { (s : SeenSet) → row.now ≡ listed_row s → IfErr result (λ fault. fault ≢ Foreign) }
+    ensures memory { (s : SeenSet) → row.now ≡ listed_row s → IfErr result (λ fault. fault ≡ Memory) }
 {
     let key = number_at(row, 0)?;
     let severity = severity_at(row, 1)?;
@@ -59,7 +59,7 @@ fn set_in(row: &Row) -> Result<ListedSet, StoreFault>
 // The sets of rows, in their order.
 fn sets_in(alloc: Global, rows: &[Row]) -> Result<Vec<ListedSet>, StoreFault>
     ensures value { (ss : List SeenSet) → rows.now ≡ map listed_row ss → IfOk result (λ sets. sets.items ≡ ss) }
-    ensures sure { (ss : List SeenSet) → rows.now ≡ map listed_row ss → IfErr result (λ fault. fault ≢ Foreign) }
+    ensures memory { (ss : List SeenSet) → rows.now ≡ map listed_row ss → IfErr result (λ fault. fault ≡ Memory) }
 {
     let mut sets = Vec::new(alloc);
     for row in rows {

@@ -1,9 +1,9 @@
 //! The marks of sets.
 
-ghost use Rattle.std.specs.Prelude.{◌≡◌, ◌≢◌, IfOk, IfErr, OnOk, List, map};
+ghost use Rattle.std.specs.Prelude.{◌≡◌, IfOk, IfErr, OnOk, List, map};
 ghost use Rattle.std.specs.List.{AllByRecursion};
 ghost use Rattle.sqlite.specs.Held.{state};
-ghost use Rattle.base_faults.specs.declared.store_fault.StoreFault.TheVariants.{Foreign};
+ghost use Rattle.base_faults.specs.declared.store_fault.StoreFault.TheVariants.{Memory};
 ghost use Rattle.table_content.specs.declared.edit.Edit.TheVariants.{PutMark, DropMarks};
 ghost use Rattle.table_schema.specs.Steps.{Plays, Reads, Serves};
 ghost use Rattle.table_sets.specs.Marked.{Mark, mark_row, IsMark, no_marks, with_marked, all_marked, AreMarksOf};
@@ -65,7 +65,7 @@ fn mark_rows<S: Alter>(tx: &mut Transaction<'_, S>, key: u32) -> Result<Vec<Row>
 // The kind of a row's mark.
 fn kind_of(row: &Row) -> Result<MarkKind, StoreFault>
     ensures value { (m : Mark) → row.now ≡ mark_row m → IfOk result (λ kind. kind ≡ m.kind) }
-    ensures sure { (m : Mark) → row.now ≡ mark_row m → IfErr result (λ fault. fault ≢ Foreign) }
+    ensures memory { (m : Mark) → row.now ≡ mark_row m → IfErr result (λ fault. fault ≡ Memory) }
 {
     let number = number_at(row, 0)?;
     match kind_of_number(number) {
@@ -77,7 +77,7 @@ fn kind_of(row: &Row) -> Result<MarkKind, StoreFault>
 // One more node is marked.
 fn add_marked(marks: &mut Marks, kind: MarkKind, node: Node) -> Result<(), StoreFault>
     ensures value { OnOk result (marks.new ≡ with_marked marks.old kind node) }
-    ensures sure { IfErr result (λ fault. fault ≢ Foreign) }
+    ensures memory { IfErr result (λ fault. fault ≡ Memory) }
 {
     match kind {
         MarkKind::Found => add_node(&mut marks.found, node)?,
@@ -89,7 +89,7 @@ fn add_marked(marks: &mut Marks, kind: MarkKind, node: Node) -> Result<(), Store
 // The mark of one more row.
 fn add_row(alloc: Global, marks: &mut Marks, row: &Row) -> Result<(), StoreFault>
     ensures value { (m : Mark) → IsMark m → row.now ≡ mark_row m → OnOk result (marks.new ≡ with_marked marks.old m.kind m.node) }
-    ensures sure { (m : Mark) → IsMark m → row.now ≡ mark_row m → IfErr result (λ fault. fault ≢ Foreign) }
+    ensures memory { (m : Mark) → IsMark m → row.now ≡ mark_row m → IfErr result (λ fault. fault ≡ Memory) }
 {
     let kind = kind_of(row)?;
     let node = node_at(alloc, row, 1)?;
@@ -99,7 +99,7 @@ fn add_row(alloc: Global, marks: &mut Marks, row: &Row) -> Result<(), StoreFault
 // The marks of rows.
 fn marks_of(alloc: Global, rows: &[Row]) -> Result<Marks, StoreFault>
     ensures value { (ms : List Mark) → AllByRecursion IsMark ms → rows.now ≡ map mark_row ms → IfOk result (λ marks. marks ≡ all_marked no_marks ms) }
-    ensures sure { (ms : List Mark) → AllByRecursion IsMark ms → rows.now ≡ map mark_row ms → IfErr result (λ fault. fault ≢ Foreign) }
+    ensures memory { (ms : List Mark) → AllByRecursion IsMark ms → rows.now ≡ map mark_row ms → IfErr result (λ fault. fault ≡ Memory) }
 {
     let mut marks = Marks {
         found: Sequence::new(alloc),

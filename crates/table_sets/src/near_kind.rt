@@ -1,9 +1,9 @@
 //! As what the mark is set that a node sees nearest.
 
-ghost use Rattle.std.specs.Prelude.{◌≡◌, ◌≢◌, Option, IfOk, IfErr, option_map};
+ghost use Rattle.std.specs.Prelude.{◌≡◌, Option, IfOk, IfErr, option_map};
 ghost use Rattle.sqlite.specs.Held.{state};
 ghost use Rattle.version_nodes.specs.declared.statuses.MarkKind.{MarkKind as SeenKind};
-ghost use Rattle.base_faults.specs.declared.store_fault.StoreFault.TheVariants.{Foreign};
+ghost use Rattle.base_faults.specs.declared.store_fault.StoreFault.TheVariants.{Memory};
 ghost use Rattle.table_schema.specs.Steps.{Reads, Serves};
 ghost use Rattle.table_sets.specs.KindAnswers.{kind_row, kind_rows};
 
@@ -33,7 +33,7 @@ fn near_rows<S: Alter>(
 // The kind of a row.
 fn kind_of(row: &Row) -> Result<MarkKind, StoreFault>
     ensures value { (kind : SeenKind) → row.now ≡ kind_row kind → IfOk result (λ k. k ≡ kind) }
-    ensures sure { (kind : SeenKind) → row.now ≡ kind_row kind → IfErr result (λ fault. fault ≢ Foreign) }
+    ensures memory { (kind : SeenKind) → row.now ≡ kind_row kind → IfErr result (λ fault. fault ≡ Memory) }
 {
     let number = number_at(row, 0)?;
     match kind_of_number(number) {
@@ -45,7 +45,7 @@ fn kind_of(row: &Row) -> Result<MarkKind, StoreFault>
 // The kind of the only row, if there is one.
 fn kind_in(rows: &[Row]) -> Result<Option<MarkKind>, StoreFault>
     ensures value { (o : Option SeenKind) → rows.now ≡ kind_rows o → IfOk result (λ kind. kind ≡ o) }
-    ensures sure { (o : Option SeenKind) → rows.now ≡ kind_rows o → IfErr result (λ fault. fault ≢ Foreign) }
+    ensures memory { (o : Option SeenKind) → rows.now ≡ kind_rows o → IfErr result (λ fault. fault ≡ Memory) }
 {
     match rows {
         [] => Ok(None),

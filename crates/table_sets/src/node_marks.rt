@@ -1,8 +1,8 @@
 //! The marks of all sets at a node.
 
-ghost use Rattle.std.specs.Prelude.{◌≡◌, ◌≢◌, IfOk, IfErr, List, map};
+ghost use Rattle.std.specs.Prelude.{◌≡◌, IfOk, IfErr, List, map};
 ghost use Rattle.sqlite.specs.Held.{state};
-ghost use Rattle.base_faults.specs.declared.store_fault.StoreFault.TheVariants.{Foreign};
+ghost use Rattle.base_faults.specs.declared.store_fault.StoreFault.TheVariants.{Memory};
 ghost use Rattle.table_schema.specs.Steps.{Reads, Serves};
 ghost use Rattle.table_sets.specs.MarkedAt.{AreMarksAt};
 ghost use Rattle.table_sets.specs.MarkAnswers.{mark_row};
@@ -40,7 +40,7 @@ fn mark_rows<S: Alter>(tx: &mut Transaction<'_, S>, node: &Node) -> Result<Vec<R
 // The kind in a row of a mark.
 fn kind_in(row: &Row) -> Result<MarkKind, StoreFault>
     ensures value { (m : SeenMark) → row.now ≡ mark_row m → IfOk result (λ kind. kind ≡ m.kind) }
-    ensures sure { (m : SeenMark) → row.now ≡ mark_row m → IfErr result (λ fault. fault ≢ Foreign) }
+    ensures memory { (m : SeenMark) → row.now ≡ mark_row m → IfErr result (λ fault. fault ≡ Memory) }
 {
     let number = number_at(row, 1)?;
     match kind_of_number(number) {
@@ -52,7 +52,7 @@ fn kind_in(row: &Row) -> Result<MarkKind, StoreFault>
 // The mark of a row.
 fn mark_in(row: &Row) -> Result<SetMark, StoreFault>
     ensures value { (m : SeenMark) → row.now ≡ mark_row m → IfOk result (λ mark. mark ≡ m) }
-    ensures sure { (m : SeenMark) → row.now ≡ mark_row m → IfErr result (λ fault. fault ≢ Foreign) }
+    ensures memory { (m : SeenMark) → row.now ≡ mark_row m → IfErr result (λ fault. fault ≡ Memory) }
 {
     let key = number_at(row, 0)?;
     let kind = kind_in(row)?;
@@ -62,7 +62,7 @@ fn mark_in(row: &Row) -> Result<SetMark, StoreFault>
 // The marks of rows, in their order.
 fn marks_in(alloc: Global, rows: &[Row]) -> Result<Vec<SetMark>, StoreFault>
     ensures value { (ms : List SeenMark) → rows.now ≡ map mark_row ms → IfOk result (λ marks. marks.items ≡ ms) }
-    ensures sure { (ms : List SeenMark) → rows.now ≡ map mark_row ms → IfErr result (λ fault. fault ≢ Foreign) }
+    ensures memory { (ms : List SeenMark) → rows.now ≡ map mark_row ms → IfErr result (λ fault. fault ≡ Memory) }
 {
     let mut marks = Vec::new(alloc);
     for row in rows {

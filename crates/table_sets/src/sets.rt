@@ -1,6 +1,6 @@
 //! The fields of sets, but for their marks, blockers and bugs.
 
-ghost use Rattle.std.specs.Prelude.{◌≡◌, ◌≢◌, ◌<◌, ℕ, pos, Bool, length, Option, option_map, option_copied, IfOk, IfErr};
+ghost use Rattle.std.specs.Prelude.{◌≡◌, ◌<◌, ℕ, pos, Bool, length, Option, option_map, option_copied, IfOk, IfErr};
 ghost use Rattle.std.specs.Str.{IsUtf8};
 ghost use Rattle.sqlite.specs.Held.{state};
 ghost use Rattle.sqlite.specs.Order.{column};
@@ -8,7 +8,7 @@ ghost use Rattle.sqlite.specs.declared.types.Value.TheVariants.{Int};
 ghost use Rattle.bug_record.specs.Severities.{rank};
 ghost use Rattle.base_words.specs.Texts.{IfGiven};
 ghost use Rattle.bug_record.specs.declared.severity.Severity.{Severity as SeenSeverity};
-ghost use Rattle.base_faults.specs.declared.store_fault.StoreFault.TheVariants.{Foreign};
+ghost use Rattle.base_faults.specs.declared.store_fault.StoreFault.TheVariants.{Memory};
 ghost use Rattle.table_encodings.specs.Encodings.{flag, tags_in};
 ghost use Rattle.table_content.specs.declared.edit.Edit.TheVariants.{PutFields, DropFields};
 ghost use Rattle.table_schema.specs.SetRows.{SetRow, IsSetRow, fields_of_row};
@@ -87,8 +87,8 @@ fn field_rows<S: Alter>(tx: &mut Transaction<'_, S>, key: u32) -> Result<Vec<Row
 // The severity in a cell; a number of none can't be read.
 pub(crate) fn severity_at(row: &Row, at: usize) -> Result<Severity, StoreFault>
     ensures value { (s : SeenSeverity) → column row.now at ≡ Int (pos (rank s)) → IfOk result (λ v. v ≡ s) }
-    ensures sure { (s : SeenSeverity) → at < length row.now → column row.now at ≡ Int (pos (rank s)) →
-        IfErr result (λ fault. fault ≢ Foreign) }
+    ensures memory { (s : SeenSeverity) → at < length row.now → column row.now at ≡ Int (pos (rank s)) →
+        IfErr result (λ fault. fault ≡ Memory) }
 {
     match severity_of_number(number_at(row, at)?) {
         Some(severity) => Ok(severity),
@@ -99,7 +99,7 @@ pub(crate) fn severity_at(row: &Row, at: usize) -> Result<Severity, StoreFault>
 // The flag in a cell; a number above 1 can't be read.
 pub(crate) fn flag_at(row: &Row, at: usize) -> Result<bool, StoreFault>
     ensures value { (b : Bool) → column row.now at ≡ Int (pos (flag b)) → IfOk result (λ v. v ≡ b) }
-    ensures sure { (b : Bool) → at < length row.now → column row.now at ≡ Int (pos (flag b)) → IfErr result (λ fault. fault ≢ Foreign) }
+    ensures memory { (b : Bool) → at < length row.now → column row.now at ≡ Int (pos (flag b)) → IfErr result (λ fault. fault ≡ Memory) }
 {
     match flag_of_number(number_at(row, at)?) {
         Some(flag) => Ok(flag),
@@ -110,7 +110,7 @@ pub(crate) fn flag_at(row: &Row, at: usize) -> Result<bool, StoreFault>
 // The tags whose number is in a cell.
 fn tags_at(alloc: Global, row: &Row, at: usize) -> Result<Tags, StoreFault>
     ensures value { (n : ℕ) → column row.now at ≡ Int (pos n) → IfOk result (λ tags. tags ≡ tags_in n) }
-    ensures sure { (n : ℕ) → at < length row.now → column row.now at ≡ Int (pos n) → IfErr result (λ fault. fault ≢ Foreign) }
+    ensures memory { (n : ℕ) → at < length row.now → column row.now at ≡ Int (pos n) → IfErr result (λ fault. fault ≡ Memory) }
 {
     Ok(tags_of_number(alloc, number_at(row, at)?)?)
 }
@@ -118,7 +118,7 @@ fn tags_at(alloc: Global, row: &Row, at: usize) -> Result<Tags, StoreFault>
 // The fields in a row.
 fn fields_of(alloc: Global, row: &Row) -> Result<SetFields, StoreFault>
     ensures value { (x : SetRow) → row.now ≡ field_row x → IfOk result (λ fields. fields ≡ fields_of_row x) }
-    ensures sure { (x : SetRow) → row.now ≡ field_row x → IsSetRow x → IfErr result (λ fault. fault ≢ Foreign) }
+    ensures memory { (x : SetRow) → row.now ≡ field_row x → IsSetRow x → IfErr result (λ fault. fault ≡ Memory) }
 {
     let package = text_at(alloc, row, 0)?;
     let severity = severity_at(row, 1)?;
@@ -141,7 +141,7 @@ fn fields_of(alloc: Global, row: &Row) -> Result<SetFields, StoreFault>
 // The fields in the only row, if there is one.
 fn fields_in(alloc: Global, rows: &[Row]) -> Result<Option<SetFields>, StoreFault>
     ensures value { (o : Option SetRow) → rows.now ≡ field_rows o → IfOk result (λ fields. fields ≡ option_map fields_of_row o) }
-    ensures sure { (o : Option SetRow) → rows.now ≡ field_rows o → IfGiven IsSetRow o → IfErr result (λ fault. fault ≢ Foreign) }
+    ensures memory { (o : Option SetRow) → rows.now ≡ field_rows o → IfGiven IsSetRow o → IfErr result (λ fault. fault ≡ Memory) }
 {
     match rows {
         [] => Ok(None),

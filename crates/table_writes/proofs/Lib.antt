@@ -1,4 +1,3 @@
-pub mod MemoryLemmas
 pub mod PlanLemmas
 pub mod ChangeSteps
 pub mod MarkedLemmas

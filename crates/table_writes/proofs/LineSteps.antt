@@ -1,12 +1,12 @@
 -- What the steps that keep an outcome come to together.
-use Rattle.std.proofs.Common.{◌≡◌, ◌≢◌, ℕ, List, Option, Some, None, Result, sym, ap, subst, ◌∙◌}
+use Rattle.std.proofs.Common.{◌≡◌, ℕ, List, Option, Some, None, Result, sym, ap, subst, ◌∙◌}
 use Rattle.sqlite.specs.State.{State}
 use Rattle.version_nodes.specs.Trees.{Ancestry}
 use Rattle.bug_record.specs.declared.bug.SetImage.{SetImage}
 use Rattle.bug_record.specs.declared.command.Change.{Change}
 use Rattle.bug_record.specs.declared.outcome.Outcome.{Outcome}
 use Rattle.base_faults.specs.declared.store_fault.StoreFault.{StoreFault}
-use Rattle.base_faults.specs.declared.store_fault.StoreFault.TheVariants.{Foreign}
+use Rattle.base_faults.specs.declared.store_fault.StoreFault.TheVariants.{Memory}
 use Rattle.store_contract.specs.Kept.{Keeping, IsOfMessage}
 use Rattle.table_content.specs.Changes.{FitsContent, changed}
 use Rattle.table_content.specs.Content.{Content}
@@ -38,8 +38,8 @@ module _ (id sender message : List ℕ) (place : ℕ) (outcome : Outcome) where
       (λ c fits. are.free c fits.0 fits.1) (λ c d _ p line is. p ∙ are.put c line is) plays
 
   -- there was no memory for them
-  pub line_failed : (s : State) (fault : StoreFault) → fault ≢ Foreign → Acts s s (failed fault) FitsAt (λ c d _. Keeps c d)
-  line_failed s fault other = acts_unable s fault FitsAt (λ c d _. Keeps c d) other
+  pub line_failed : (s : State) (fault : StoreFault) → fault ≡ Memory → Acts s s (failed fault) FitsAt (λ c d _. Keeps c d)
+  line_failed s fault is = acts_unable s fault FitsAt (λ c d _. Keeps c d) is
 
   -- ---- with a change
 

@@ -1,10 +1,10 @@
 //! The rows of nearest marks that a branch makes.
 
-ghost use Rattle.std.specs.Prelude.{◌≡◌, ◌≢◌, ◌&&◌, true, All, IfOk, IfErr};
+ghost use Rattle.std.specs.Prelude.{◌≡◌, ◌&&◌, true, All, IfOk, IfErr};
 ghost use Rattle.sqlite.specs.Held.{state};
 ghost use Rattle.version_nodes.specs.Trees.{has_node, knows, line};
 ghost use Rattle.version_marks.specs.Nearest.{meets, is_once};
-ghost use Rattle.base_faults.specs.declared.store_fault.StoreFault.TheVariants.{Foreign};
+ghost use Rattle.base_faults.specs.declared.store_fault.StoreFault.TheVariants.{Memory};
 ghost use Rattle.table_content.specs.Branches.{AreMissing};
 ghost use Rattle.table_content.specs.Kept.{IsKeptContent};
 ghost use Rattle.table_nodes.specs.Grown.{IsGrown};
@@ -24,7 +24,7 @@ use version_nodes::Node;
 // The line of a node.
 fn line_of(family: &Family, node: &Node) -> Result<Vec<Node>, StoreFault>
     ensures value { IfOk result (λ nodes. nodes.items ≡ line family.now node.now) }
-    ensures sure { IfErr result (λ fault. fault ≢ Foreign) }
+    ensures memory { IfErr result (λ fault. fault ≡ Memory) }
 {
     Ok(family.tree().line(node)?)
 }
@@ -72,7 +72,7 @@ fn affected_nodes(alloc: Global, family: &Family, changed: &[Node]) -> Result<Ve
     ensures known { IfOk result (λ nodes. All (λ n. knows family.now n ≡ true) nodes.items) }
     ensures are { IfOk result (λ nodes. (v : Node) →
         has_node nodes.items v ≡ (knows family.now v && meets changed.now (line family.now v))) }
-    ensures sure { IfErr result (λ fault. fault ≢ Foreign) }
+    ensures memory { IfErr result (λ fault. fault ≡ Memory) }
 {
     Ok(affected(alloc, family, changed)?)
 }

@@ -1,12 +1,12 @@
 //! What is kept of a message that has an id.
 
-ghost use Rattle.std.specs.Prelude.{◌≡◌, ◌≢◌, Some, IfOk, IfErr};
+ghost use Rattle.std.specs.Prelude.{◌≡◌, Some, IfOk, IfErr};
 ghost use Rattle.sqlite.specs.Held.{state};
 ghost use Rattle.table_encodings.specs.Outcomes.{numbered};
 ghost use Rattle.table_content.specs.View.{with_their_numbers, outcomes_of, keeping_in};
 ghost use Rattle.table_schema.specs.Steps.{Reads, Serves};
 ghost use Rattle.bug_record.specs.declared.outcome.Outcome.TheVariants.{Changed};
-ghost use Rattle.base_faults.specs.declared.store_fault.StoreFault.TheVariants.{Foreign};
+ghost use Rattle.base_faults.specs.declared.store_fault.StoreFault.TheVariants.{Memory};
 
 use base_faults::StoreFault;
 use bug_record::{Outcome, Sequence};
@@ -20,7 +20,7 @@ use table_schema::parameter;
 // An equal outcome, or that there was no memory.
 fn copied(outcome: &Outcome) -> Result<Outcome, StoreFault>
     ensures value { IfOk result (λ copy. copy ≡ outcome.now) }
-    ensures sure { IfErr result (λ fault. fault ≢ Foreign) }
+    ensures memory { IfErr result (λ fault. fault ≡ Memory) }
 {
     Ok(copy_outcome(outcome)?)
 }

@@ -1,13 +1,15 @@
 //! Desks that crash or are closed between two calls, and are opened again.
 
+use crate::counted::Counted;
 use crate::desks::{desk_after, writes};
 use crate::tasks::{Came, CrashTask, over_new_files};
 use desk_tables::TableDesk;
 use sqlite::{Alter, Connection, FileStore, Options};
+use sqlite_disk::{Disk, Files};
 use sqlite_trees::store::Reopen;
 use std::alloc::Global;
-use table_crashes::{close_and_crash, close_and_open, crash_and_open};
-use test_doubles::{MemoryFile, connected, new_files};
+use table_crashes::{close_and_open, close_files, crash_and_open, crash_files, open_files};
+use test_doubles::{DatabaseFiles, MemoryFile, connected, new_files};
 
 // Two bugs that are merged, and a branch.
 const SCRIPT: &str =
@@ -46,21 +48,47 @@ impl CrashTask for Crash {
     }
 }
 
-/// The desk after the script, in two files.
-pub(crate) fn desk_in_files(alloc: Global) -> Option<TableDesk<FileStore<MemoryFile>>> {
-    match connected(alloc, new_files(alloc), Options::new(1)) {
+// A desk in two files that count their crashes.
+type FileDesk = TableDesk<FileStore<Counted<MemoryFile>>>;
+
+// Two empty files that count their crashes.
+fn counted_files(alloc: Global) -> Files<Counted<MemoryFile>> {
+    let DatabaseFiles { log, db } = new_files(alloc);
+    Files {
+        log: Counted::new(log),
+        db: Counted::new(db),
+    }
+}
+
+/// The desk after the script, in two new files.
+pub(crate) fn desk_in_files<D: Disk + Drop>(
+    alloc: Global,
+    files: Files<D>,
+) -> Option<TableDesk<FileStore<D>>> {
+    match connected(alloc, files, Options::new(1)) {
         Ok(conn) => desk_after(alloc, conn, SCRIPT, ANSWERS),
         Err(_) => None,
     }
 }
 
+// Closes a desk, crashes, and opens what is left.
+// `None` also where a file has crashed another number of times than once.
+fn close_and_crash(alloc: Global, desk: FileDesk) -> Option<FileDesk> {
+    let files = close_files(desk).ok()?;
+    let files = crash_files(files);
+    if (files.log.crashes(), files.db.crashes()) != (1, 1) {
+        return None;
+    }
+    open_files(alloc, files, Options::new(1))
+}
+
 // Whether all is there after a close, or after a close and a crash.
 fn survives_a_close(alloc: Global, crashes: bool) -> bool {
-    let Some(desk) = desk_in_files(alloc) else {
+    let Some(desk) = desk_in_files(alloc, counted_files(alloc)) else {
         return false;
     };
     let again = if crashes {
-        close_and_crash(alloc, desk, Options::new(1))
+        close_and_crash(alloc, desk)
     } else {
         close_and_open(alloc, desk, Options::new(1))
     };

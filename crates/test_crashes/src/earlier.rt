@@ -2,7 +2,7 @@
 
 use crate::crashes::desk_in_files;
 use std::alloc::Global;
-use test_doubles::DatabaseFiles;
+use test_doubles::{DatabaseFiles, new_files};
 
 /// What takes tables of schema 3 back to schema 2, which has none of messages.
 pub(crate) const TO_SECOND: &str =
@@ -16,7 +16,7 @@ pub(crate) const TO_FIRST: &str =
 /// Files with the desk after the script, closed once its tables were taken back by these
 /// statements.
 pub(crate) fn earlier_files(alloc: Global, back: &str) -> Option<DatabaseFiles> {
-    let Some(desk) = desk_in_files(alloc) else {
+    let Some(desk) = desk_in_files(alloc, new_files(alloc)) else {
         return None;
     };
     let mut conn = desk.close();

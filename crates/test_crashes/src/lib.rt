@@ -6,6 +6,8 @@
 #[cfg(test)]
 mod changes;
 #[cfg(test)]
+mod counted;
+#[cfg(test)]
 mod crashes;
 #[cfg(test)]
 mod desks;

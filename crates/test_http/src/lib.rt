@@ -26,5 +26,6 @@ mod sent_again;
 mod statuses;
 #[cfg(test)]
 mod store_faults;
+mod visitors;
 #[cfg(test)]
 mod writes;

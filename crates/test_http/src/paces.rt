@@ -1,7 +1,7 @@
 //! A clock and two ends of a connection that pass the time by themselves: how long a server waits.
 
 use crate::exchanges::{REPORT, serve};
-use desk_http::{Limits, ServeFault, Served, serve_within};
+use desk_http::{Connection, Limits, ServeFault, Served, drain_connection, serve_within};
 use memory_desk::PlainDesk;
 use std::alloc::Global;
 use std::cell::Cell;
@@ -175,12 +175,23 @@ fn end_of(told: &Result<Served, ServeFault>) -> ServeEnd {
     }
 }
 
+// What came of serving a client and of draining its connection.
+fn serve_client<S: Records>(alloc: Global, desk: &mut S, client: &Client) -> ServeEnd {
+    let connection = Connection {
+        reader: client,
+        writer: client,
+    };
+    let (told, connection) = serve_within(client, alloc, desk, connection);
+    drain_connection(client, &told, connection);
+    end_of(&told)
+}
+
 // What came of a request at these paces: how it ended and when, and how many bugs there are then.
 fn ends(alloc: Global, client: &Client) -> (ServeEnd, u64, u64) {
     let mut desk = PlainDesk::new(alloc, 1);
-    let told = serve_within(client, alloc, &mut desk, client, client);
+    let end = serve_client(alloc, &mut desk, client);
     let bugs = desk.next().unwrap_or(0).saturating_sub(1);
-    (end_of(&told), client.now.get(), bugs)
+    (end, client.now.get(), bugs)
 }
 
 // The same of a report that is sent and whose answer is taken at these paces.
@@ -289,8 +300,8 @@ fn list_at(alloc: Global, desk: &mut PlainDesk, takes: Pace) -> Result<Taken, Fa
         sends_more: AT_ONCE,
     };
     let client = Client::new(String::from_str(alloc, LIST)?, paces);
-    let told = serve_within(&client, alloc, desk, &client, &client);
-    Ok((end_of(&told), client.now.get(), client.written.get()))
+    let end = serve_client(alloc, desk, &client);
+    Ok((end, client.now.get(), client.written.get()))
 }
 
 // The same of lists of so many bugs, one after another.
@@ -303,40 +314,35 @@ fn lists_at(alloc: Global, bugs: usize, takes: &[Pace]) -> Result<Vec<Taken>, Fa
     Ok(all)
 }
 
-// The first line of these lists has 27 bytes, so 4,366 bugs make 999,841 and 4,367 make 1,000,070,
-// after a head of 103 and 104 bytes.
+// 18,000 bugs make 4,122,028 bytes, after a head of 104, which are 1,007 pieces of 4,096 bytes; the
+// first comes at once, and each other after a pause.
+// At pauses of 8 milliseconds 626 come in 5 seconds, more than 2,000,000 bytes, 876 in 7, more than
+// 3,000,000, and 1,001 in 8, more than 4,000,000.
+// At pauses of 20 milliseconds 251 come in 5 seconds, more than 1,000,000 bytes, and 301 in 6, less
+// than 2,000,000.
+// At pauses of 21 milliseconds 239 come in 5 seconds, less than 1,000,000 bytes.
 #[test]
-fn an_answer_has_a_second_more_for_each_million_bytes(rt: HostRuntime) -> Result<(), Fail> {
-    let below = lists_at(rt.alloc(), 4_366, &[late(4_999), late(5_001)])?;
-    assert!(rt;
-        below[..]
-            == [
-                (ServeEnd::Answered, 4_999, 999_944),
-                (ServeEnd::WriteFault, 5_000, 0)
-            ]
-    );
-    let above = lists_at(rt.alloc(), 4_367, &[late(5_999), late(6_001)])?;
-    assert!(rt;
-        above[..]
-            == [
-                (ServeEnd::Answered, 5_999, 1_000_174),
-                (ServeEnd::WriteFault, 6_000, 0)
-            ]
-    );
-    Ok(())
-}
-
-// 18,000 bugs make 4,122,028 bytes, after a head of 104, which are 1,007 pieces of 4,096 bytes.
-#[test]
-fn a_list_of_four_megabytes_has_nine_seconds(rt: HostRuntime) -> Result<(), Fail> {
-    let paces = [late(u64::MAX), after_each(2, 4_096), after_each(8, 4_096)];
+fn an_answer_has_a_second_more_for_each_million_bytes_that_are_taken(
+    rt: HostRuntime,
+) -> Result<(), Fail> {
+    let paces = [
+        late(4_999),
+        late(5_001),
+        after_each(2, 4_096),
+        after_each(8, 4_096),
+        after_each(20, 4_096),
+        after_each(21, 4_096),
+    ];
     let taken = lists_at(rt.alloc(), 18_000, &paces)?;
     assert!(rt;
         taken[..]
             == [
-                (ServeEnd::WriteFault, 9_000, 0),
+                (ServeEnd::Answered, 4_999, 4_122_132),
+                (ServeEnd::WriteFault, 5_000, 0),
                 (ServeEnd::Answered, 2_012, 4_122_132),
-                (ServeEnd::Answered, 8_048, 4_122_132)
+                (ServeEnd::Answered, 8_048, 4_122_132),
+                (ServeEnd::WriteFault, 6_000, 1_232_896),
+                (ServeEnd::WriteFault, 5_000, 978_944)
             ]
     );
     Ok(())

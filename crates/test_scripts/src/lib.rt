@@ -6,6 +6,8 @@
 #[cfg(test)]
 mod each_fault;
 #[cfg(test)]
+mod ends;
+#[cfg(test)]
 mod failing_store;
 #[cfg(test)]
 mod left_as_before;

@@ -14,9 +14,8 @@ use Rattle.desk_run.proofs.ScriptLemmas.{left_more, left_same, reading_counted, 
 use Rattle.desk_run.proofs.ScriptLemmas.{stops_in_line, last_line, ends_at_last, ends_at_end, one_line_more}
 use Rattle.store_contract.proofs.TriedLemmas.{tried_then, holds_three, holds_both_here}
 use Rattle.control_lines.specs.Lines.{raw_lines}
-use Rattle.desk_run.specs.Script.{script_of}
 use Rattle.desk_run.proofs.ScriptLemmas.{no_lines_left}
-use Rattle.desk_run.proofs.TriedLemmas.{parts_settled, tried_in_line, tried_at_end, holds_all}
+use Rattle.desk_run.proofs.TriedLemmas.{tried_in_line, tried_at_end, holds_all}
 use Rattle.desk_run.proofs.script.run_script.Goals as goal
 
 pub returns-in_default-clause-answer : goal.returns-in_default-clause-answer
@@ -53,7 +52,7 @@ returns-in_err-line-clause-answer g c =
     rw (p.1, p.2) (holds_weaker i.ran
     (λ ran. known_before i.read c.in_err-line.ensures.fault
     (λ xs ys r f. stops_reading i.texts i.before c.loop-number.run.gathered.items xs (c.loop-number.source.unread ++ ys) _
-    c.loop-number.number _ _ _ _ _ _ _ c.in_err-line.field-0.0 r i.cut ran refl i.faults i.counted c.in_err-line.ensures.outside f)))
+    c.loop-number.number _ _ _ _ _ _ _ c.in_err-line.field-0.0 r i.cut ran refl i.faults i.counted f)))
 
 pub returns-in_err-line-clause-begun : goal.returns-in_err-line-clause-begun
 returns-in_err-line-clause-begun g c e =
@@ -78,7 +77,7 @@ returns-in_err-take_line-in-Line-clause-answer g c =
     rw (p.1, p.2) (holds_then i.ran c.in_err-take_line-in-Line.ensures.err
     (λ ran stop. stops_in_line i.texts i.before c.loop-number.run.gathered.items c.loop-number.source.unread
     c.next_line.new.source.unread c.in-Line.line _ _ _ _ _ _ _ _ _ c.in_err-take_line-in-Line.field-0.0 i.faults i.read piece i.cut ran
-    c.in_err-take_line-in-Line.ensures.own stop))
+    stop))
 
 pub returns-in_err-take_line-in-Last-clause-answer : goal.returns-in_err-take_line-in-Last-clause-answer
 returns-in_err-take_line-in-Last-clause-answer g c =
@@ -89,7 +88,7 @@ returns-in_err-take_line-in-Last-clause-answer g c =
     rw (p.1, p.2) (holds_then i.ran c.in_err-take_line-in-Last.ensures.err
     (λ ran stop. stops_in_line i.texts i.before c.loop-number.run.gathered.items c.loop-number.source.unread
     c.next_line.new.source.unread c.in-Last.line _ _ _ _ _ _ _ _ _ c.in_err-take_line-in-Last.field-0.0 i.faults i.read piece i.cut
-    ran c.in_err-take_line-in-Last.ensures.own stop))
+    ran stop))
 
 pub returns-in-Last-clause-answer : goal.returns-in-Last-clause-answer
 returns-in-Last-clause-answer g c =
@@ -99,8 +98,8 @@ returns-in-Last-clause-answer g c =
     holds_then (holds_both i.ran more.2) c.finish_script.ensures.answer
     (λ p ends. ends_at_last i.texts i.before more.0 c.loop-number.run.gathered.items c.take_line-in-Last.new.run.gathered.items
     c.loop-number.source.unread c.next_line.new.source.unread c.in-Last.line _ _ _ _ _ _ _ _ _ c.finish_script.result
-    i.read piece i.cut more.1 (runs_then i.before more.0 _ _ _ _ _ _ p.0 p.1) c.finish_script.ensures.own
-    (c.in_ok-take_line-in-Last.ensures.count ∙ i.faults) ends)
+    i.read piece i.cut more.1 (runs_then i.before more.0 _ _ _ _ _ _ p.0 p.1)
+    (c.in_ok-take_line-in-Last.ensures.count ∙ i.faults) c.finish_script.ensures.count ends)
 
 pub returns-in-Last-clause-read : goal.returns-in-Last-clause-read
 returns-in-Last-clause-read g c =
@@ -115,7 +114,7 @@ returns-in-End-clause-answer g c =
     holds_then i.ran c.finish_script-in-End.ensures.answer
     (λ ran ends. ends_at_end i.texts i.before c.loop-number.run.gathered.items c.loop-number.source.unread
     c.next_line.new.source.unread _ _ _ _ _ _ _ _ _ c.finish_script-in-End.result i.read piece i.cut ran
-    c.finish_script-in-End.ensures.own i.faults ends)
+    i.faults c.finish_script-in-End.ensures.count ends)
 
 pub returns-in-End-clause-read : goal.returns-in-End-clause-read
 returns-in-End-clause-read g c =
@@ -152,7 +151,7 @@ returns-clause-answer g c =
     holds_weaker i.ran
     (λ ran. known_before i.read (record { known = λ ys e. tt })
     (λ xs ys r (t : Unit {0}). stops_reading i.texts i.before c.loop-number.run.gathered.items xs
-    (c.loop-number.source.unread ++ ys) _ c.loop-number.number _ _ _ _ _ _ _ Read r i.cut ran refl i.faults i.counted tt tt))
+    (c.loop-number.source.unread ++ ys) _ c.loop-number.number _ _ _ _ _ _ _ Read r i.cut ran refl i.faults i.counted tt))
 
 pub returns-in_default-clause-crash : goal.returns-in_default-clause-crash
 returns-in_default-clause-crash g c =

@@ -16,7 +16,7 @@ pub returns-in-TooManyUnreadable : goal.returns-in-TooManyUnreadable
 returns-in-TooManyUnreadable c =
     rw c.in-TooManyUnreadable.is
     (record {
-      ok = c.append_text.ensures.ok;
+      ok = rw c.too_many_line.ensures at c.append_text.ensures.ok;
       err = c.append_text.ensures.err;
       utf8 = c.append_text.ensures.utf8;
       nothing = λ e. cc;

@@ -1,4 +1,4 @@
-use Rattle.std.proofs.Common.{◌≡◌, ◌∙◌, ap, sym, ℕ, List, string_bytes, subst, arith, rules, Err, Ok}
+use Rattle.std.proofs.Common.{◌≡◌, ◌∙◌, ap, ℕ, List, string_bytes, subst, arith, rules, Err, Ok}
 use Rattle.version_nodes.specs.Nodes.{node_of_text}
 use Rattle.message_directives.specs.BranchWords.{IsNodeAdded}
 use Rattle.http_answers.proofs.NodesLemmas.{nodes_more, nodes_unread}

@@ -5,6 +5,7 @@ use Rattle.http_requests.specs.Requests.{GetList}
 use Rattle.http_answers.specs.Faults.{IsAnswer}
 use Rattle.http_requests.specs.Shown.{shown}
 use Rattle.http_answers.proofs.AnswerLemmas.{list_right}
+use Rattle.http_answers.proofs.CrashLemmas.{question_left}
 use Rattle.http_answers.proofs.lists_and_pages.answer_list.Goals as goal
 
 pub returns-clause-answer : goal.returns-clause-answer
@@ -20,3 +21,7 @@ returns-clause-answer g c =
     (shown c.answer_question.result) new) c.as_str-2.ensures.value
     (list_right c.as_str.result.now c.as_str-2.result.now old new c.list_of.result c.answer_question.result h
     c.answer_question.ensures.is)))
+
+pub returns-clause-crash : goal.returns-clause-crash
+returns-clause-crash g c =
+    question_left g.S.Records.leaves _ _ _ _ _ _ _ _ c.list_of.ensures.crash c.list_of.ensures.stays

@@ -1,34 +1,39 @@
-use Rattle.std.proofs.Common.{List, ℕ, ◌≡◌, ◌++◌, ◌∙◌, subst, codes, length, option_map, OnOk}
-use Rattle.std.specs.Io.KnownBytes.{Appends}
-use Rattle.std.proofs.KnownBytes.{Appends-trans}
-use Rattle.http_requests.specs.Answer.{status_line, allow_line, length_lines, media_line}
-use Rattle.http_requests.specs.Shown.{media_of, body_of}
-use Rattle.http_requests.proofs.WrittenLemmas.{written_then}
+use Rattle.std.proofs.Common.{◌≡◌, ◌++◌}
+use Rattle.http_requests.specs.Answer.{answer_bytes}
+use Rattle.http_requests.specs.Shown.{shown}
+use Rattle.http_requests.proofs.WrittenLemmas.{answer_front, both_written, none_begun, front_begun, rest_begun, on_error, on_error_then}
 use Rattle.http_requests.proofs.writing.write_reply.Goals as goal
 
-pub returns : goal.returns
-returns g c = record {
-  all =
-      let reply = c.args.reply.now in
-      let body = body_of reply.body in
-      let a = g.W.Write.contents c.args.writer.now in
-      let b = g.W.Write.contents c.write_status.new.writer in
-      let d = g.W.Write.contents c.write_allow.new.writer in
-      let e = g.W.Write.contents c.write_length.new.writer in
-      let f = g.W.Write.contents c.write_three.new.writer in
-      let h = g.W.Write.contents c.write_whole.new.writer in
-      let k = g.W.Write.contents c.write_whole-2.new.writer in
-      let status = status_line reply.status in
-      let allow = allow_line (option_map (λ s. s.now) reply.allow) in
-      let size = length_lines (length body) in
-      let media : c.as_bytes.result.now ≡ media_of reply.body = c.as_bytes.ensures.value ∙ c.media.ensures in
-      let two = Appends-trans a b d status allow c.in_ok-write_status.ensures.all c.in_ok-write_allow.ensures.all in
-      let three = Appends-trans a d e (status ++ allow) size two
-      (subst (λ (bytes : List ℕ). Appends d e (length_lines (length bytes))) c.bytes-body.ensures c.in_ok-write_length.ensures.all) in
-      let four = Appends-trans a e f (status ++ allow ++ size) (media_line (media_of reply.body)) three
-      (subst (λ (m : List ℕ). Appends e f (media_line m)) media c.in_ok-write_three.ensures.all) in
-      let five = Appends-trans a f h (status ++ allow ++ size ++ media_line (media_of reply.body)) (codes "\r\n") four
-      c.in_ok-write_whole.ensures.all in
-      written_then c.write_whole-2.result a h k (status ++ allow ++ size ++ media_line (media_of reply.body) ++ codes "\r\n") body five
-      (subst (λ (bytes : List ℕ). OnOk c.write_whole-2.result (Appends h k bytes)) c.bytes-body.ensures c.write_whole-2.ensures.all);
-}
+pub returns-in_err-write_whole-clause-unfinished : goal.returns-in_err-write_whole-clause-unfinished
+returns-in_err-write_whole-clause-unfinished g c =
+    on_error c.from_residual-in_err-write_whole.result _ (none_begun (g.W.Write.contents c.args.writer.now) (answer_bytes (shown c.args.reply.now)))
+
+pub returns-in_err-write_whole-2-clause-unfinished : goal.returns-in_err-write_whole-2-clause-unfinished
+returns-in_err-write_whole-2-clause-unfinished g c =
+    let whole = answer_front (shown c.args.reply.now) c.bytes-body.result.now c.min.result c.new-front.result.items
+    c.write_head.new.writer.items c.write_whole.new.writer.items c.split_at.result.0.now c.split_at.result.1.now c.as_slice.result.now
+    c.bytes-body.ensures c.split_at.ensures.front c.split_at.ensures.back c.new-front.ensures
+    c.in_ok-write_head.ensures.all c.in_ok-write_whole.ensures.all c.as_slice.ensures.value in
+    on_error c.from_residual-in_err-write_whole-2.result _ (front_begun (g.W.Write.contents c.args.writer.now)
+    (g.W.Write.contents c.write_whole-2.new.writer) c.as_slice.result.now c.split_at.result.1.now (answer_bytes (shown c.args.reply.now)) whole
+    c.in_err-write_whole-2.ensures.unfinished)
+
+pub returns-clause-all : goal.returns-clause-all
+returns-clause-all g c =
+    let whole = answer_front (shown c.args.reply.now) c.bytes-body.result.now c.min.result c.new-front.result.items
+    c.write_head.new.writer.items c.write_whole.new.writer.items c.split_at.result.0.now c.split_at.result.1.now c.as_slice.result.now
+    c.bytes-body.ensures c.split_at.ensures.front c.split_at.ensures.back c.new-front.ensures
+    c.in_ok-write_head.ensures.all c.in_ok-write_whole.ensures.all c.as_slice.ensures.value in
+    both_written c.write_whole-3.result (g.W.Write.contents c.args.writer.now) (g.W.Write.contents c.write_whole-2.new.writer)
+    (g.W.Write.contents c.write_whole-3.new.writer) c.as_slice.result.now c.split_at.result.1.now (answer_bytes (shown c.args.reply.now))
+    whole c.in_ok-write_whole-2.ensures.all c.write_whole-3.ensures.all
+
+pub returns-clause-unfinished : goal.returns-clause-unfinished
+returns-clause-unfinished g c =
+    let whole = answer_front (shown c.args.reply.now) c.bytes-body.result.now c.min.result c.new-front.result.items
+    c.write_head.new.writer.items c.write_whole.new.writer.items c.split_at.result.0.now c.split_at.result.1.now c.as_slice.result.now
+    c.bytes-body.ensures c.split_at.ensures.front c.split_at.ensures.back c.new-front.ensures
+    c.in_ok-write_head.ensures.all c.in_ok-write_whole.ensures.all c.as_slice.ensures.value in
+    on_error_then c.write_whole-3.result _ _ (rest_begun (g.W.Write.contents c.args.writer.now) (g.W.Write.contents c.write_whole-2.new.writer)
+    (g.W.Write.contents c.write_whole-3.new.writer) c.as_slice.result.now c.split_at.result.1.now (answer_bytes (shown c.args.reply.now))
+    whole c.in_ok-write_whole-2.ensures.all) c.write_whole-3.ensures.unfinished

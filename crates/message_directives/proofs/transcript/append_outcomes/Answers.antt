@@ -1,4 +1,4 @@
-use Rattle.std.proofs.Common.{◌≡◌, ℕ, ◌+◌, ◌<◌, List, ◌++◌, length, get_or, drop, refl, sym, ap, ◌∙◌}
+use Rattle.std.proofs.Common.{◌≡◌, ◌≢◌, [], ◌∷◌, OnErr, Result, Ok, Err, arith, ℕ, ◌+◌, ◌<◌, List, ◌++◌, length, get_or, drop, refl, sym, ap, ◌∙◌}
 use Rattle.std.proofs.lemmas.List.{append_assoc, append-nil, at_drop_all, at_drop_more}
 use Rattle.std.proofs.lemmas.Result.{IfOk-from_err}
 use Rattle.store_contract.specs.Message.{Entry}
@@ -15,6 +15,14 @@ next entries i d x a b c lt is h e =
     ∙ ap (λ w. a ++ w) (ap (λ (y : Entry). outcome_text y.0 y.1 ++ rest) (sym is) ∙ sym (at_drop_more transcript entries i d lt))
     ∙ h
 
+some_entries : (entries : List Entry) (i : ℕ) → i < length entries → entries ≢ []
+some_entries [] i lt e = absurd (omega (arith, lt))
+some_entries (entry ∷ entries) i lt e = cc
+
+on_err : {T E P : Type 0} (r : Result T E) → P → OnErr r P
+on_err (Ok done) p = tt
+on_err (Err fault) p = p
+
 pub loop-entry-init : goal.loop-entry-init
 loop-entry-init c = record { text = refl; utf8 = λ of_a. of_a }
 
@@ -24,6 +32,7 @@ returns-in_err-outcome_text c = record {
       IfOk-from_err c.from_residual.result
       (λ _. c.outcome_text.new.out.items ≡ c.args.out.now.items ++ transcript c.args.outcomes.now) c.from_residual.ensures.0;
   utf8 = λ of_a. c.outcome_text.ensures.utf8 (c.loop-entry.invariant.utf8 of_a);
+  some = on_err c.from_residual.result (some_entries c.args.outcomes.now c.loop-entry.entry-index c.loop-entry-test.true);
 }
 
 pub loop-entry-preserved : goal.loop-entry-preserved
@@ -47,4 +56,5 @@ returns c =
           ∙ ap (λ w. out ++ w) (sym (at_drop_all transcript c.args.outcomes.now l.entry-index c.loop-entry-test.false))
           ∙ l.invariant.text;
       utf8 = l.invariant.utf8;
+      some = tt;
     }

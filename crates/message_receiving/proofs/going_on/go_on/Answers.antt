@@ -2,7 +2,7 @@ use Rattle.std.proofs.Common.{ℕ, ◌≤◌, ◌+◌, List, [], ◌∷◌, ◌�
 use Rattle.std.specs.Prelude.{slice_get}
 use Rattle.std.proofs.lemmas.List.{take_all}
 use Rattle.store_contract.specs.Progress.{goes_on}
-use Rattle.message_receiving.proofs.MachineLemmas.{goes_on-all, settled_faults, settled_line}
+use Rattle.message_receiving.proofs.MachineLemmas.{goes_on-all, settled_faults, settled_line, failed_line}
 use Rattle.store_contract.proofs.HoldsLemmas.{holds_weaker}
 use Rattle.store_contract.specs.Kept.{lines_told}
 use Rattle.message_receiving.proofs.GoingLemmas.{carry, carry_both, going-first, going-more, going-all, resumes-ended, resumes-failed-in}
@@ -124,6 +124,11 @@ pub returns-then-not-goes_on-clause-line : goal.returns-then-not-goes_on-clause-
 returns-then-not-goes_on-clause-line g c =
     settled_line c.take_line.new.progress.outcomes.items c.received.result.end c.args.lines.now
     (c.in-Ok.ensures.end ∙ sym c.received.ensures.end)
+
+pub returns-in-Err-clause-line : goal.returns-in-Err-clause-line
+returns-in-Err-clause-line g c =
+    failed_line c.args.lines.now c.loop-i.i c.index-lines-i.result c.in-Err.fault c.received-in-Err.result.end c.loop-i-test.true
+    c.index-lines-i.is c.in-Err.ensures.failed c.received-in-Err.ensures.end
 
 pub returns-then-not-goes_on-clause-count : goal.returns-then-not-goes_on-clause-count
 returns-then-not-goes_on-clause-count g c =

@@ -12,6 +12,7 @@ use Rattle.store_contract.specs.Kept.{kept_also}
 use Rattle.store_contract.proofs.HoldsLemmas.{holds_then, holds_both}
 use Rattle.message_receiving.proofs.GoingLemmas.{may-keep-since, takes-since, takes-none, carry}
 use Rattle.message_receiving.proofs.CrashLemmas.{failed_since, made_since, asked_left, asked_once}
+use Rattle.message_receiving.proofs.FailedLemmas.{on_err}
 use Rattle.message_receiving.proofs.going_on.take_line.Goals as goal
 
 pub keep-requires-clause-members : goal.keep-requires-clause-members
@@ -170,3 +171,8 @@ returns-in_ok-keep-in-Ok-Some-clause-honest g c = λ w.
 
 pub returns-in_ok-keep-in-Ok-Some-clause-count : goal.returns-in_ok-keep-in-Ok-Some-clause-count
 returns-in_ok-keep-in-Ok-Some-clause-count g c = c.in_ok-keep-in-Ok-Some.ensures.count ∙ c.in-Ok-Some.ensures.count
+
+pub returns-in_err-keep-in-Ok-Some-clause-failed : goal.returns-in_err-keep-in-Ok-Some-clause-failed
+returns-in_err-keep-in-Ok-Some-clause-failed g c =
+    let there = rw c.in-Ok-Some.field-0-is at c.in-Ok-Some.ensures.told in
+    on_err c.from_residual.result (sym there)

@@ -1,7 +1,9 @@
-use Rattle.std.proofs.Common.{sym, ◌∙◌, ap, Err, refl}
-use Rattle.control_grammar.specs.Lines.{reading}
+use Rattle.std.proofs.Common.{sym, ◌∙◌, ap, subst, Err, refl}
+use Rattle.control_grammar.specs.Lines.{reading, BeginsWithCommand}
 use Rattle.store_contract.specs.Message.{machine, takes}
+use Rattle.store_contract.specs.Kept.{reads_as_command}
 use Rattle.store_contract.proofs.HoldsLemmas.{asks_none}
+use Rattle.message_receiving.proofs.FailedLemmas.{on_err, command_told}
 use Rattle.message_receiving.proofs.DecidingLemmas.{decides_plainly, fits_plainly, members_plainly, counts_memory, takes_stop, takes_refused, refused-good}
 use Rattle.message_receiving.proofs.line_decision.decide_line.Goals as goal
 
@@ -59,3 +61,23 @@ returns-in-Err-Refused-clause-members g c =
 pub returns-in-Err-Refused-clause-count : goal.returns-in-Err-Refused-clause-count
 returns-in-Err-Refused-clause-count g c =
     counts_memory c.decide_plain-in-Err-Refused.result _ c.decide_plain-in-Err-Refused.ensures.memory
+
+pub returns-in-Ok-Stop-clause-failed : goal.returns-in-Ok-Stop-clause-failed
+returns-in-Ok-Stop-clause-failed g c =
+    let reads = ap reading (sym c.as_str.ensures) ∙ rw c.in-Ok-Stop.field-0-is at c.in-Ok-Stop.ensures.exact in
+    on_err c.decide_plain.result (ap reads_as_command reads)
+
+pub returns-in-Ok-Do-clause-failed : goal.returns-in-Ok-Do-clause-failed
+returns-in-Ok-Do-clause-failed g c =
+    let reads = ap reading (sym c.as_str.ensures) ∙ rw c.in-Ok-Do.field-0-is at c.in-Ok-Do.ensures.exact in
+    on_err c.decide_command_line.result (ap reads_as_command reads)
+
+pub returns-in-Err-Refused-clause-failed : goal.returns-in-Err-Refused-clause-failed
+returns-in-Err-Refused-clause-failed g c =
+    let reads = ap reading (sym c.as_str.ensures) ∙ rw c.in-Err-Refused.field-0-is at c.in-Err-Refused.ensures.exact in
+    on_err c.decide_plain-in-Err-Refused.result (ap reads_as_command reads)
+
+pub returns-in-Err-Memory-clause-failed : goal.returns-in-Err-Memory-clause-failed
+returns-in-Err-Memory-clause-failed g c =
+    command_told c.args.line.now
+    (subst BeginsWithCommand c.as_str.ensures (c.in-Err-Memory.ensures.memory c.in-Err-Memory.field-0-is))

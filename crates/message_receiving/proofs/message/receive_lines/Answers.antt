@@ -4,7 +4,7 @@ use Rattle.store_contract.specs.Message.{machine, takes, unreadable_count, end_o
 use Rattle.store_contract.specs.Progress.{HaveNumbers}
 use Rattle.store_contract.specs.Progress.{goes_on}
 use Rattle.store_contract.proofs.EndLemmas.{at_start_open}
-use Rattle.message_receiving.proofs.MachineLemmas.{line_more, all_ended, received_all, tried_settled, received_ended, goes_on-all, settled_faults, settled_line}
+use Rattle.message_receiving.proofs.MachineLemmas.{line_more, all_ended, received_all, tried_settled, received_ended, goes_on-all, settled_faults, settled_line, failed_line}
 use Rattle.control_grammar.specs.Lines.{reading}
 use Rattle.store_contract.proofs.TriedLemmas.{tried_then, tried_is, holds_three}
 use Rattle.message_receiving.proofs.message.receive_lines.Goals as goal
@@ -77,6 +77,11 @@ pub returns-then-not-goes_on-clause-line : goal.returns-then-not-goes_on-clause-
 returns-then-not-goes_on-clause-line g c =
     settled_line c.take_line.new.progress.outcomes.items c.received.result.end c.args.lines.now
     (c.in-Ok.ensures.end ∙ sym c.received.ensures.end)
+
+pub returns-in-Err-clause-line : goal.returns-in-Err-clause-line
+returns-in-Err-clause-line g c =
+    failed_line c.args.lines.now c.loop-i.i c.index-lines-i.result c.in-Err.fault c.received-in-Err.result.end c.loop-i-test.true
+    c.index-lines-i.is c.in-Err.ensures.failed c.received-in-Err.ensures.end
 
 pub returns-then-not-goes_on-clause-crash : goal.returns-then-not-goes_on-clause-crash
 returns-then-not-goes_on-clause-crash g c =

@@ -1,7 +1,7 @@
-use Rattle.std.proofs.Common.{◌∙◌, ℕ, List, inr, rules, subst}
+use Rattle.std.proofs.Common.{◌∙◌, ℕ, List, inl, inr, refl, rules, subst}
 use Rattle.base_words.specs.Texts.{IsText}
 use Rattle.base_words.specs.Ids.{IsId}
-use Rattle.program_jobs.specs.InFile.{IsKeptInFile, HasHonestFile, desk_in_file, keeping_in_file, faults_in_file}
+use Rattle.program_jobs.specs.InFile.{IsKeptInFile, HasHonestFile, desk_in_file, keeping_in_file, faults_in_file, leaves_in_file}
 use Rattle.program_jobs.specs.Jobs.{IsSentOnceOver}
 use Rattle.program_jobs.proofs.repeats.send_once_to_file.Goals as goal
 
@@ -11,8 +11,14 @@ returns-in-Ok-open_desk g c =
     let id : IsId c.args.id.now = search rules in
     let old = c.in-Ok-open_desk.desk in
     let new = c.send_once_over-end.new.desk in
-    let sent = subst (λ (m : List ℕ). IsSentOnceOver IsKeptInFile HasHonestFile desk_in_file keeping_in_file faults_in_file
+    let sent = subst (λ (m : List ℕ). IsSentOnceOver IsKeptInFile HasHonestFile desk_in_file keeping_in_file faults_in_file leaves_in_file
     c.args.id.now c.args.from.now m (g.W.Write.contents c.args.writer.now)
     (g.W.Write.contents c.send_once_over-end.new.writer) old new c.send_once_over-end.result)
     (c.as_str.ensures.value ∙ c.in-Ok.ensures) c.send_once_over-end.ensures in
     inr ((text, id), inr (inr (old, new, c.in-Ok-open_desk.ensures.opened, sent, c.close_desk.ensures)))
+
+pub returns : goal.returns
+returns g c =
+    let text : IsText c.args.from.now = search rules in
+    let id : IsId c.args.id.now = search rules in
+    inr ((text, id), inr (inl (c.in-Err.cause, c.in-Err.ensures.cause, (refl, refl))))

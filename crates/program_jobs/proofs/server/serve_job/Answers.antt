@@ -23,6 +23,6 @@ returns g c =
       served = serves_weaker over.result
           (λ s. subst (λ (d : Stored). IsInTurn c.args.count (d, no_faults) (last, no_faults) over.result)
           (stored_same c.new-desk.ensures.desk c.new-desk.ensures.kept)
-          (in_turn _ _ _ _ c.args.count _ new over.result s tt tt))
+          (in_turn _ _ _ _ _ c.args.count _ new _ _ over.result s tt tt))
           over.served;
     }

@@ -5,10 +5,10 @@ use Rattle.table_nodes.proofs.family.links_of.Goals as goal
 abbrev none : Node × Option Node
 none = (record { source = []; version = [] }, None)
 
-pub returns-in_err-link-clause-sure : goal.returns-in_err-link-clause-sure
-returns-in_err-link-clause-sure c ls valid are =
+pub returns-in_err-link-clause-memory : goal.returns-in_err-link-clause-memory
+returns-in_err-link-clause-memory c ls valid are =
     let told : c.from_residual.result ≡ Err c.in_err-link.field-0.0 = search rules in
-    rw told (c.in_err-link.ensures.sure (get_or ls c.loop-row.row-index none)
+    rw told (c.in_err-link.ensures.memory (get_or ls c.loop-row.row-index none)
     (good_at link_row none IsLink c.args.rows.now ls c.loop-row.row-index c.loop-row-test.true are valid)
     (row_at link_row none c.args.rows.now ls c.loop-row.row-index c.row-item.result c.loop-row-test.true c.row-item.is are))
 

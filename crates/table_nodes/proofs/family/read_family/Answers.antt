@@ -13,5 +13,5 @@ returns-clause-acts g c =
     acts_served (state g.S.Store c.args.tx.now.conn.now) (state g.S.Store c.link_rows.new.tx.conn.now) c.in_ok-rows.rows c.family_of.result (λ k. IsForest k.nodes)
     (λ k d rows. (d ≡ k) × AreLinksOf k.nodes rows.items) (λ k d family. (d ≡ k) × (IsForest k.nodes → family ≡ k.nodes))
     (λ k d p. if_ok c.family_of.result (λ family. family ≡ k.nodes) p.0 (λ forest. c.family_of.ensures.value k.nodes forest (subst (AreLinksOf k.nodes) (sym c.as_slice.ensures.value) p.1)))
-    (λ k d forest p. c.family_of.ensures.sure k.nodes forest (subst (AreLinksOf k.nodes) (sym c.as_slice.ensures.value) p.1))
+    (λ k d forest p. c.family_of.ensures.memory k.nodes forest (subst (AreLinksOf k.nodes) (sym c.as_slice.ensures.value) p.1))
     c.in_ok-rows.ensures.serves c.in_ok-rows.ensures.reads

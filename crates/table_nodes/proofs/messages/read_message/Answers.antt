@@ -10,4 +10,4 @@ returns-in_err-rows-clause-reads g c =
 pub returns-clause-reads : goal.returns-clause-reads
 returns-clause-reads g c =
     reads_work (state g.S.Store c.args.tx.now.conn.now) (state g.S.Store c.message_rows.new.tx.conn.now) c.in_ok-rows.rows c.message_of.result (λ _. ⊤) (λ k rows. AreMessageRows rows.items (k.messages c.args.id.now)) (λ k message. message ≡ k.messages c.args.id.now)
-    (λ k p. let are = subst (λ rows. AreMessageRows rows (k.messages c.args.id.now)) (sym c.as_slice.ensures.value) p in (c.message_of.ensures.value _ are, c.message_of.ensures.sure _ are)) c.in_ok-rows.ensures.reads
+    (λ k p. let are = subst (λ rows. AreMessageRows rows (k.messages c.args.id.now)) (sym c.as_slice.ensures.value) p in (c.message_of.ensures.value _ are, c.message_of.ensures.memory _ are)) c.in_ok-rows.ensures.reads

@@ -9,4 +9,4 @@ returns-in_err-rows-clause-reads g c =
 pub returns-clause-reads : goal.returns-clause-reads
 returns-clause-reads g c =
     reads_work (state g.S.Store c.args.tx.now.conn.now) (state g.S.Store c.next_rows.new.tx.conn.now) c.in_ok-rows.rows c.next_in.result (λ _. ⊤) (λ k rows. rows.items ≡ number_row k.next ∷ []) (λ k next. next ≡ k.next)
-    (λ k p. let is = c.as_slice.ensures.value ∙ p in (c.next_in.ensures.value _ is, c.next_in.ensures.sure _ is)) c.in_ok-rows.ensures.reads
+    (λ k p. let is = c.as_slice.ensures.value ∙ p in (c.next_in.ensures.value _ is, c.next_in.ensures.memory _ is)) c.in_ok-rows.ensures.reads

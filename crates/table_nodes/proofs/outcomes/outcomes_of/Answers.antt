@@ -5,10 +5,10 @@ use Rattle.table_nodes.proofs.outcomes.outcomes_of.Goals as goal
 abbrev none : ToldOutcome
 none = record { place = 0; outcome = Stopped }
 
-pub returns-in_err-outcome-clause-sure : goal.returns-in_err-outcome-clause-sure
-returns-in_err-outcome-clause-sure c ts is =
+pub returns-in_err-outcome-clause-memory : goal.returns-in_err-outcome-clause-memory
+returns-in_err-outcome-clause-memory c ts is =
     let told : c.from_residual.result ≡ Err c.in_err-outcome.field-0.0 = search rules in
-    rw told (c.in_err-outcome.ensures.sure (get_or ts c.loop-row.row-index none)
+    rw told (c.in_err-outcome.ensures.memory (get_or ts c.loop-row.row-index none)
     (good_at outcome_row none IsToldOutcome c.args.rows.now ts c.loop-row.row-index c.loop-row-test.true is.are is.good)
     (row_at outcome_row none c.args.rows.now ts c.loop-row.row-index c.row-item.result c.loop-row-test.true c.row-item.is is.are))
 

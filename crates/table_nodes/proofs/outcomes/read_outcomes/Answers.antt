@@ -10,4 +10,4 @@ returns-in_err-rows-clause-reads g c =
 pub returns-clause-reads : goal.returns-clause-reads
 returns-clause-reads g c =
     reads_work (state g.S.Store c.args.tx.now.conn.now) (state g.S.Store c.outcome_rows.new.tx.conn.now) c.in_ok-rows.rows c.outcomes_of.result (λ _. ⊤) (λ k rows. AreOutcomeRows rows.items (k.outcomes c.args.id.now)) (λ k outcomes. outcomes ≡ k.outcomes c.args.id.now)
-    (λ k p. let are = subst (λ rows. AreOutcomeRows rows (k.outcomes c.args.id.now)) (sym c.as_slice.ensures.value) p in (c.outcomes_of.ensures.value _ are, c.outcomes_of.ensures.sure _ are)) c.in_ok-rows.ensures.reads
+    (λ k p. let are = subst (λ rows. AreOutcomeRows rows (k.outcomes c.args.id.now)) (sym c.as_slice.ensures.value) p in (c.outcomes_of.ensures.value _ are, c.outcomes_of.ensures.memory _ are)) c.in_ok-rows.ensures.reads

@@ -11,4 +11,4 @@ pub returns-clause-reads : goal.returns-clause-reads
 returns-clause-reads g c =
     reads_work (state g.S.Store c.args.tx.now.conn.now) (state g.S.Store c.last_rows.new.tx.conn.now) c.in_ok-rows.rows c.above_row.result (λ _. ⊤)
     (λ k rows. AreGreatest (places_of (k.outcomes c.args.id.now)) rows.items) (λ k place. place ≡ next_above (places_of (k.outcomes c.args.id.now)))
-    (λ k p. let is = c.as_slice.ensures.value ∙ p.are in (above_it _ p.greatest c.above_row.result p.next (c.above_row.ensures.value _ is), c.above_row.ensures.sure _ is)) c.in_ok-rows.ensures.reads
+    (λ k p. let is = c.as_slice.ensures.value ∙ p.are in (above_it _ p.greatest c.above_row.result p.next (c.above_row.ensures.value _ is), c.above_row.ensures.memory _ is)) c.in_ok-rows.ensures.reads

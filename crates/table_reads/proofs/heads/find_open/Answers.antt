@@ -19,7 +19,7 @@ returns-then-branch-clause-reads g c =
       if_same c.some_node.result (λ node. node ≡ Some c.node-item.result) (λ node. node ≡ find (λ v. is_found_at k c.args.key v c.args.image.now.shared) c.args.nodes.now)
           (λ node e. e ∙ sym (found_there (λ v. is_found_at k c.args.key v c.args.image.now.shared) c.args.nodes.now c.loop-node.node-index c.node-item.result c.loop-node-test.true c.node-item.is (sym p.1 ∙ c.if-branch.true)) ∙ p.0)
           c.some_node.ensures.value,
-      c.some_node.ensures.sure,
+      c.some_node.ensures.memory,
     ))
     (known_then old mid new c.in_ok-read_found.field-0
     (λ k. find (λ v. is_found_at k c.args.key v c.args.image.now.shared) (drop c.loop-node.node-index c.args.nodes.now) ≡ find (λ v. is_found_at k c.args.key v c.args.image.now.shared) c.args.nodes.now)

@@ -18,7 +18,7 @@ returns-in-Some-clause-reads g c =
     (λ k asked p.
     let is : k.key (key_of c.args.image.now) ≡ Some c.in-Some.key = ap (λ n. k.key n) (sym (c.key_asked.ensures (subst (λ n. n < 2 ^ 32) (sym c.key_of.ensures) (first_small c.args.image.now k asked)) ∙ c.key_of.ensures)) ∙ sym p ∙ c.in-Some.is in (
       if_same c.small_key.result (λ key. key ≡ c.in-Some.key) (λ key. k.key (key_of c.args.image.now) ≡ Some key) (λ key e. is ∙ ap Some (sym e)) c.small_key.ensures.value,
-      c.small_key.ensures.sure (key_small k asked.kept (key_of c.args.image.now) c.in-Some.key is),
+      c.small_key.ensures.memory (key_small k asked.kept (key_of c.args.image.now) c.in-Some.key is),
     ))
     c.in_ok-key.ensures.serves c.in_ok-key.ensures.reads
 
@@ -28,5 +28,5 @@ returns-in-None-clause-reads g c =
     let new = state g.S.Store c.read_key.new.tx.conn.now in
     let r : Result ℕ StoreFault = Err Foreign in
     where_work old new c.in_ok-key.field-0 r (IsSetIn c.args.image.now) (λ k key. key ≡ k.key c.key_asked.result) (λ k key. k.key (key_of c.args.image.now) ≡ Some key)
-    (λ k asked p. (tt, λ e. key_there c.args.image.now k asked (ap (λ n. k.key n) (sym (c.key_asked.ensures (subst (λ n. n < 2 ^ 32) (sym c.key_of.ensures) (first_small c.args.image.now k asked)) ∙ c.key_of.ensures)) ∙ sym p ∙ c.in-None.is)))
+    (λ k asked p. (tt, absurd (key_there c.args.image.now k asked (ap (λ n. k.key n) (sym (c.key_asked.ensures (subst (λ n. n < 2 ^ 32) (sym c.key_of.ensures) (first_small c.args.image.now k asked)) ∙ c.key_of.ensures)) ∙ sym p ∙ c.in-None.is))))
     c.in_ok-key.ensures.serves c.in_ok-key.ensures.reads

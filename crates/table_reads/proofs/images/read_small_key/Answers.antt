@@ -13,5 +13,5 @@ returns-in_err-small_key-in-Some-clause-reads g c =
     let r : Result (Option ℕ) StoreFault = Err fault in
     let is : c.from_residual-in_err-small_key-in-Some.result ≡ r = search rules in
     rw is (kept_work old new c.in_ok-key.field-0 r (λ k key. key ≡ k.key c.args.number) (λ k key. key ≡ k.key c.args.number)
-    (λ k kept p. (tt, c.in_err-small_key-in-Some.ensures.sure (key_small k kept c.args.number c.in-Some.key (sym p ∙ c.in-Some.is))))
+    (λ k kept p. (tt, c.in_err-small_key-in-Some.ensures.memory (key_small k kept c.args.number c.in-Some.key (sym p ∙ c.in-Some.is))))
     c.in_ok-key.ensures.serves (kept_any old new (Ok c.in_ok-key.field-0) (λ k key. key ≡ k.key c.args.number) (λ k key. key ≡ k.key c.args.number) (λ k key kept p. p) c.in_ok-key.ensures.reads))

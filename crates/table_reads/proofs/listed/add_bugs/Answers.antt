@@ -18,5 +18,5 @@ returns-clause-reads g c =
     (λ k p. (
       subst (λ (ms : List Member). OnOk c.put_bugs.result ((n : ℕ) → get nat_cmp c.put_bugs.new.rows n ≡ option_or (row_among c.args.fields ms n) (get nat_cmp c.args.rows.now n)))
           (c.as_slice.ensures ∙ p) c.put_bugs.ensures.value,
-      c.put_bugs.ensures.sure,
+      c.put_bugs.ensures.memory,
     )) c.in_ok-members.ensures.reads

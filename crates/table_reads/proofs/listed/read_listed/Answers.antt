@@ -31,5 +31,5 @@ returns-clause-reads g c =
       if_same c.sorted.result (λ rows. rows ≡ flat_map (λ severity. filter (is_row_of severity) (values_of c.in_ok-rows.rows.entries)) all_severities)
           (λ rows. IsKeptContent k → AreListed (desk_in k) p v rows)
           (λ rows is kept. let h = has kept in are_listed k kept p v h.0 h.1 c.in_ok-rows.rows c.sorted.ensures.ordered h.2 rows is) c.sorted.ensures.value,
-      c.sorted.ensures.sure,
+      c.sorted.ensures.memory,
     )) c.in_ok-rows.ensures.reads)

@@ -14,6 +14,6 @@ returns-clause-reads g c =
     kept_work old new c.in_ok-keys.keys c.small_keys.result (AreKeysOf c.args.number) (λ k keys. AreKeysOf c.args.number k keys.items)
     (λ k kept p. (
       answer_is (λ keys. keys.items) (AreKeysOf c.args.number k) c.in_ok-keys.keys c.small_keys.result p (subst (λ xs. IfOk c.small_keys.result (λ keys. keys.items ≡ xs)) c.as_slice.ensures c.small_keys.ensures.value),
-      c.small_keys.ensures.sure (subst (Each (λ key. key < 2 ^ 32)) (sym c.as_slice.ensures) (keys_small k kept c.args.number c.in_ok-keys.keys p)),
+      c.small_keys.ensures.memory (subst (Each (λ key. key < 2 ^ 32)) (sym c.as_slice.ensures) (keys_small k kept c.args.number c.in_ok-keys.keys p)),
     ))
     c.in_ok-keys.ensures.serves (kept_any old new (Ok c.in_ok-keys.keys) (AreKeysOf c.args.number) (AreKeysOf c.args.number) (λ k keys kept p. p) c.in_ok-keys.ensures.reads)

@@ -11,4 +11,4 @@ pub returns-clause-reads : goal.returns-clause-reads
 returns-clause-reads g c =
     reads_work (state g.S.Store c.args.tx.now.conn.now) (state g.S.Store c.name_rows.new.tx.conn.now) c.in_ok-rows.rows c.names_of.result (λ _. ⊤)
     (λ k rows. (ns : List (List ℕ)) × (rows.items ≡ map text_row ns) × AreNamesOf (k.affects c.args.key) ns) (λ k names. names ≡ k.affects c.args.key)
-    (λ k p. let is = c.as_slice.ensures.value ∙ p.1 in (answer_is (λ names. names) (λ names. names ≡ k.affects c.args.key) _ c.names_of.result p.2.all (c.names_of.ensures.value _ p.2.valid is), c.names_of.ensures.sure _ p.2.valid is)) c.in_ok-rows.ensures.reads
+    (λ k p. let is = c.as_slice.ensures.value ∙ p.1 in (answer_is (λ names. names) (λ names. names ≡ k.affects c.args.key) _ c.names_of.result p.2.all (c.names_of.ensures.value _ p.2.valid is), c.names_of.ensures.memory _ p.2.valid is)) c.in_ok-rows.ensures.reads

@@ -11,4 +11,4 @@ pub returns-clause-reads : goal.returns-clause-reads
 returns-clause-reads g c =
     reads_work (state g.S.Store c.args.tx.now.conn.now) (state g.S.Store c.key_rows.new.tx.conn.now) c.in_ok-rows.rows c.numbers_of.result (λ _. ⊤)
     (λ k rows. (keys : List ℕ) × (rows.items ≡ map number_row keys) × AreKeysAffecting c.args.«package».now k keys) (λ k keys. AreKeysAffecting c.args.«package».now k keys)
-    (λ k p. let is = c.as_slice.ensures.value ∙ p.1 in (answer_is (λ keys. keys) (AreKeysAffecting c.args.«package».now k) p.0 c.numbers_of.result p.2 (c.numbers_of.ensures.value _ is), c.numbers_of.ensures.sure _ is)) c.in_ok-rows.ensures.reads
+    (λ k p. let is = c.as_slice.ensures.value ∙ p.1 in (answer_is (λ keys. keys) (AreKeysAffecting c.args.«package».now k) p.0 c.numbers_of.result p.2 (c.numbers_of.ensures.value _ is), c.numbers_of.ensures.memory _ is)) c.in_ok-rows.ensures.reads

@@ -9,4 +9,4 @@ returns-in_err-rows-clause-reads g c =
 pub returns-clause-reads : goal.returns-clause-reads
 returns-clause-reads g c =
     reads_work (state g.S.Store c.args.tx.now.conn.now) (state g.S.Store c.blocker_rows.new.tx.conn.now) c.in_ok-rows.rows c.numbers_of.result (λ _. ⊤) (λ k rows. rows.items ≡ map number_row (k.blockers c.args.key)) (λ k numbers. numbers ≡ k.blockers c.args.key)
-    (λ k p. let is = c.as_slice.ensures.value ∙ p in (c.numbers_of.ensures.value _ is, c.numbers_of.ensures.sure _ is)) c.in_ok-rows.ensures.reads
+    (λ k p. let is = c.as_slice.ensures.value ∙ p in (c.numbers_of.ensures.value _ is, c.numbers_of.ensures.memory _ is)) c.in_ok-rows.ensures.reads

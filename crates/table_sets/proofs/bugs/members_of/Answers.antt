@@ -5,10 +5,10 @@ use Rattle.table_sets.proofs.bugs.members_of.Goals as goal
 abbrev none : Member
 none = record { number = 0; title = []; submitter = [] }
 
-pub returns-in_err-member-clause-sure : goal.returns-in_err-member-clause-sure
-returns-in_err-member-clause-sure c ms is =
+pub returns-in_err-member-clause-memory : goal.returns-in_err-member-clause-memory
+returns-in_err-member-clause-memory c ms is =
     let told : c.from_residual.result ≡ Err c.in_err-member.field-0.0 = search rules in
-    rw told (c.in_err-member.ensures.sure (get_or ms c.loop-row.row-index none)
+    rw told (c.in_err-member.ensures.memory (get_or ms c.loop-row.row-index none)
     (row_at member_row none c.args.rows.now ms c.loop-row.row-index c.row-item.result c.loop-row-test.true c.row-item.is is.are)
     (good_at member_row none HasUtf8 c.args.rows.now ms c.loop-row.row-index c.loop-row-test.true is.are is.good))
 

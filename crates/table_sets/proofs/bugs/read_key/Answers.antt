@@ -9,4 +9,4 @@ returns-in_err-rows-clause-reads g c =
 pub returns-clause-reads : goal.returns-clause-reads
 returns-clause-reads g c =
     reads_work (state g.S.Store c.args.tx.now.conn.now) (state g.S.Store c.key_rows.new.tx.conn.now) c.in_ok-rows.rows c.number_in.result (λ _. ⊤) (λ k rows. rows.items ≡ option_map_or (λ n. number_row n ∷ []) (k.key c.args.number) []) (λ k key. key ≡ k.key c.args.number)
-    (λ k p. let is = c.as_slice.ensures.value ∙ p in (c.number_in.ensures.value _ is, c.number_in.ensures.sure _ is)) c.in_ok-rows.ensures.reads
+    (λ k p. let is = c.as_slice.ensures.value ∙ p in (c.number_in.ensures.value _ is, c.number_in.ensures.memory _ is)) c.in_ok-rows.ensures.reads

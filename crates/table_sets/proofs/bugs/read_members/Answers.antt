@@ -10,4 +10,4 @@ returns-in_err-rows-clause-reads g c =
 pub returns-clause-reads : goal.returns-clause-reads
 returns-clause-reads g c =
     reads_work (state g.S.Store c.args.tx.now.conn.now) (state g.S.Store c.member_rows.new.tx.conn.now) c.in_ok-rows.rows c.shared_members.result (λ _. ⊤) (λ k rows. AreMemberRows rows.items (k.members c.args.key)) (λ k members. members ≡ k.members c.args.key)
-    (λ k p. let are = subst (λ rows. AreMemberRows rows (k.members c.args.key)) (sym c.as_slice.ensures.value) p in (c.shared_members.ensures.value _ are, c.shared_members.ensures.sure _ are)) c.in_ok-rows.ensures.reads
+    (λ k p. let are = subst (λ rows. AreMemberRows rows (k.members c.args.key)) (sym c.as_slice.ensures.value) p in (c.shared_members.ensures.value _ are, c.shared_members.ensures.memory _ are)) c.in_ok-rows.ensures.reads

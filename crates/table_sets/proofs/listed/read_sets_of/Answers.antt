@@ -11,4 +11,4 @@ pub returns-clause-reads : goal.returns-clause-reads
 returns-clause-reads g c =
     reads_work (state g.S.Store c.args.tx.now.conn.now) (state g.S.Store c.listed_rows.new.tx.conn.now) c.in_ok-rows.rows c.sets_in.result (λ _. ⊤)
     (λ k rows. (ss : List ListedSet) × (rows.items ≡ map listed_row ss) × AreSetsOf c.args.«package».now k ss) (λ k sets. AreSetsOf c.args.«package».now k sets.items)
-    (λ k p. let is = c.as_slice.ensures.value ∙ p.1 in (answer_is (λ sets. sets.items) (AreSetsOf c.args.«package».now k) p.0 c.sets_in.result p.2 (c.sets_in.ensures.value _ is), c.sets_in.ensures.sure _ is)) c.in_ok-rows.ensures.reads
+    (λ k p. let is = c.as_slice.ensures.value ∙ p.1 in (answer_is (λ sets. sets.items) (AreSetsOf c.args.«package».now k) p.0 c.sets_in.result p.2 (c.sets_in.ensures.value _ is), c.sets_in.ensures.memory _ is)) c.in_ok-rows.ensures.reads

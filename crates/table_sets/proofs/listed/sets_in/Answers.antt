@@ -5,10 +5,10 @@ use Rattle.table_sets.proofs.listed.sets_in.Goals as goal
 abbrev none : ListedSet
 none = record { key = 0; fields = record { severity = Critical; closed = false } }
 
-pub returns-in_err-set-clause-sure : goal.returns-in_err-set-clause-sure
-returns-in_err-set-clause-sure c ss are =
+pub returns-in_err-set-clause-memory : goal.returns-in_err-set-clause-memory
+returns-in_err-set-clause-memory c ss are =
     let told : c.from_residual.result ≡ Err c.in_err-set.field-0.0 = search rules in
-    rw told (c.in_err-set.ensures.sure (get_or ss c.loop-row.row-index none) (row_at listed_row none c.args.rows.now ss c.loop-row.row-index c.row-item.result c.loop-row-test.true c.row-item.is are))
+    rw told (c.in_err-set.ensures.memory (get_or ss c.loop-row.row-index none) (row_at listed_row none c.args.rows.now ss c.loop-row.row-index c.row-item.result c.loop-row-test.true c.row-item.is are))
 
 pub loop-row-preserved : goal.loop-row-preserved
 loop-row-preserved c ss are =

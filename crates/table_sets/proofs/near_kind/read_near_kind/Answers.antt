@@ -11,4 +11,4 @@ pub returns-clause-reads : goal.returns-clause-reads
 returns-clause-reads g c =
     reads_work (state g.S.Store c.args.tx.now.conn.now) (state g.S.Store c.near_rows.new.tx.conn.now) c.in_ok-rows.rows c.kind_in.result (λ _. ⊤)
     (λ k rows. rows.items ≡ kind_rows (option_map (λ near. near.kind) (k.near c.args.key c.args.node.now))) (λ k kind. kind ≡ option_map (λ near. near.kind) (k.near c.args.key c.args.node.now))
-    (λ k p. let is = c.as_slice.ensures.value ∙ p in (c.kind_in.ensures.value _ is, c.kind_in.ensures.sure _ is)) c.in_ok-rows.ensures.reads
+    (λ k p. let is = c.as_slice.ensures.value ∙ p in (c.kind_in.ensures.value _ is, c.kind_in.ensures.memory _ is)) c.in_ok-rows.ensures.reads

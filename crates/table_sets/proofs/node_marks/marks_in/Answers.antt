@@ -5,10 +5,10 @@ use Rattle.table_sets.proofs.node_marks.marks_in.Goals as goal
 abbrev none : SetMark
 none = record { key = 0; kind = Found }
 
-pub returns-in_err-mark-clause-sure : goal.returns-in_err-mark-clause-sure
-returns-in_err-mark-clause-sure c ms are =
+pub returns-in_err-mark-clause-memory : goal.returns-in_err-mark-clause-memory
+returns-in_err-mark-clause-memory c ms are =
     let told : c.from_residual.result ≡ Err c.in_err-mark.field-0.0 = search rules in
-    rw told (c.in_err-mark.ensures.sure (get_or ms c.loop-row.row-index none) (row_at mark_row none c.args.rows.now ms c.loop-row.row-index c.row-item.result c.loop-row-test.true c.row-item.is are))
+    rw told (c.in_err-mark.ensures.memory (get_or ms c.loop-row.row-index none) (row_at mark_row none c.args.rows.now ms c.loop-row.row-index c.row-item.result c.loop-row-test.true c.row-item.is are))
 
 pub loop-row-preserved : goal.loop-row-preserved
 loop-row-preserved c ms are =

@@ -12,4 +12,4 @@ pub returns-clause-reads : goal.returns-clause-reads
 returns-clause-reads g c =
     reads_work (state g.S.Store c.args.tx.now.conn.now) (state g.S.Store c.mark_rows.new.tx.conn.now) c.in_ok-rows.rows c.marks_in.result (λ _. ⊤)
     (λ k rows. (ms : List SetMark) × (rows.items ≡ map mark_row ms) × AreMarksAt c.args.node.now k ms) (λ k marks. AreMarksAt c.args.node.now k marks.items)
-    (λ k p. let is = c.as_slice.ensures.value ∙ p.1 in (answer_is (λ marks. marks.items) (AreMarksAt c.args.node.now k) p.0 c.marks_in.result p.2 (c.marks_in.ensures.value _ is), c.marks_in.ensures.sure _ is)) c.in_ok-rows.ensures.reads
+    (λ k p. let is = c.as_slice.ensures.value ∙ p.1 in (answer_is (λ marks. marks.items) (AreMarksAt c.args.node.now k) p.0 c.marks_in.result p.2 (c.marks_in.ensures.value _ is), c.marks_in.ensures.memory _ is)) c.in_ok-rows.ensures.reads

@@ -6,7 +6,6 @@ use Rattle.table_nodes.specs.Grown.{IsGrown}
 use Rattle.table_schema.proofs.ReadSteps.{known_first, known_answer}
 use Rattle.table_writes.specs.Steps.{Makes}
 use Rattle.table_writes.proofs.BranchSteps.{says}
-use Rattle.table_writes.proofs.MemoryLemmas.{memory_only}
 use Rattle.table_writes.proofs.branch.plan_branch.Goals as goal
 
 pub returns-clause-reads : goal.returns-clause-reads
@@ -21,6 +20,6 @@ returns-clause-reads g c =
     (λ x p. (
       says c.edits_of.result (λ edits. (y : Content) → IsKeptContent y → IsGrown y.nodes u changed → AreMissing y u rows.items → Makes u edits y)
           (λ edits. IsKeptContent x → IsGrown x.nodes u changed → Makes u edits x) (λ edits made kept grown. made x kept grown (p kept grown)) c.edits_of.ensures.made,
-      memory_only c.edits_of.result c.edits_of.ensures.memory,
+      c.edits_of.ensures.memory,
     ))
     (known_first old new rows (λ x rows. IsKeptContent x → IsGrown x.nodes u changed → AreMissing x u rows.items) c.in_ok-rows.ensures.reads)

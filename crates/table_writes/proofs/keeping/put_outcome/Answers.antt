@@ -7,7 +7,7 @@ pub returns-in_err-edits-clause-acts : goal.returns-in_err-edits-clause-acts
 returns-in_err-edits-clause-acts g c =
     let fault = c.in_err-edits.field-0.0 in
     let is : c.from_residual.result ≡ Err fault = search rules in
-    rw is (line_failed c.args.id.now c.args.from.now c.args.message.now c.args.place c.args.outcome.now (state g.S.Store c.args.tx.now.conn.now) fault (λ foreign. absurd (cc (foreign, c.in_err-edits.ensures.memory))))
+    rw is (line_failed c.args.id.now c.args.from.now c.args.message.now c.args.place c.args.outcome.now (state g.S.Store c.args.tx.now.conn.now) fault c.in_err-edits.ensures.memory)
 
 pub returns-clause-acts : goal.returns-clause-acts
 returns-clause-acts g c =

@@ -15,10 +15,11 @@ returns g c =
     let it = noted g.S.Store d.last.value d.conn c.ask_within.new.conn d.family (remembered d) c.ask_within.result _ _ asked d.stays c.requires.fits in
     record {
       answer = record { holds = record { honest = it.honest; kept = λ was clean. was; fact = it.fact }; was_kept = λ now clean. now; left = left_as_before _ _ asked.survives };
-      sure = it.never;
+      cause = it.cause;
       last = refl;
       family = refl;
       known = refl;
+      next = refl;
       survives = asked.survives;
       counts = refl;
     }

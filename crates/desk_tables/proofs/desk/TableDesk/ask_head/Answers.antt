@@ -17,7 +17,7 @@ returns-in-Some g c =
     (λ was clean. is_asked c.in-Some.family c.args.image.now content was.content c.requires.member (c.requires.set was clean) (subst (λ f. IfSome f (λ t. t ≡ content.nodes)) c.in-Some.is was.tree)) in
     record {
       answer = record { holds = record { honest = it.honest; kept = λ was clean. was; fact = it.fact }; was_kept = λ now clean. now; left = left_as_before _ _ asked.survives };
-      sure = it.never;
+      cause = it.cause;
       last = refl;
       survives = asked.survives;
       counts = refl;

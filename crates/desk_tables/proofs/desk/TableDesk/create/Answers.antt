@@ -10,7 +10,7 @@ found-requires-clause-stays g c = still_is _ _ (ap (state g.S.Store) c.of-last.e
 pub returns-in-Ok-clause-kept : goal.returns-in-Ok-clause-kept
 returns-in-Ok-clause-kept g c clean =
     let made = c.in-Ok.ensures.created.ok (subst (λ h. HasCleanDisk (state g.S.Store h)) c.found.ensures.conn clean) in
-    new_is_kept g.S.Store c.args.first c.found.result.last.value c.create_tables.new.conn (c.found.ensures.last ∙ c.of-last.ensures) (made.1, made.2) c.found.result.family c.found.ensures.family (remembered c.found.result) c.found.ensures.known c.found.ensures.place c.requires.some c.requires.few
+    new_is_kept g.S.Store c.args.first c.found.result.last.value c.create_tables.new.conn (c.found.ensures.last ∙ c.of-last.ensures) (made.1, made.2) c.found.result.family c.found.ensures.family (remembered c.found.result) c.found.ensures.known c.found.ensures.place c.found.ensures.next c.requires.some c.requires.few
 
 pub returns-in-Ok-clause-empty : goal.returns-in-Ok-clause-empty
 returns-in-Ok-clause-empty g c clean =

@@ -18,7 +18,7 @@ returns-in-Some g c =
         was_kept = λ now clean. now;
         left = λ clean a b left. left;
       };
-      sure = λ was clean. tt;
+      cause = λ was clean. tt;
       last = refl;
       survives = survives_same (state_of d);
       counts = refl;

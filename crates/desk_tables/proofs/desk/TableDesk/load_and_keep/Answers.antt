@@ -1,5 +1,5 @@
 use Rattle.desk_tables.proofs.Imports.{IsNextPlace, content_seen, desk_seen, keeping_seen, AreTablesOf}
-use Rattle.table_schema.proofs.Exports.{◌≡◌, Err, ap, sym, subst, ◌∙◌, rules, option_copied, state, survives_then, survives_weaker, kept_after}
+use Rattle.table_schema.proofs.Exports.{◌≡◌, Err, fault_later, faults_later, ap, sym, subst, ◌∙◌, rules, option_copied, state, survives_then, survives_weaker, kept_after}
 use Rattle.table_reads.specs.Known.{known_key, known_set}
 use Rattle.desk_tables.proofs.KeptLemmas.{recalled_in}
 use Rattle.desk_tables.proofs.desk.TableDesk.load_and_keep.Goals as goal
@@ -71,3 +71,28 @@ returns-clause-crash g c = λ may was.
     (rw last at (c.keep_outcome.ensures.crash (rw last may) (λ clean.
     let early = c.keep_outcome.ensures.honest clean in
     loaded.kept (found.kept was (loaded.honest early)) early)))
+
+pub returns-in_err-load_for-clause-cause : goal.returns-in_err-load_for-clause-cause
+returns-in_err-load_for-clause-cause g c = λ may was clean.
+    let found = c.in_ok-place.ensures in
+    let did = c.in_err-load_for.ensures in
+    let early = did.answer.holds.honest clean in
+    let fault = c.in_err-load_for.field-0.0 in
+    let is : c.from_residual-in_err-load_for.result ≡ Err fault = search rules in
+    rw is (fault_later (state g.S.Store c.args.self.now.conn) (state g.S.Store c.find_place.new.self.conn) (state g.S.Store c.load_for.new.self.conn) _ _ found.survives did.survives early fault
+    (did.cause (found.answer.holds.kept was early) clean))
+
+pub returns-clause-cause : goal.returns-clause-cause
+returns-clause-cause g c = λ may was clean.
+    let found = c.in_ok-place.ensures in
+    let loaded = c.in_ok-load_for.ensures in
+    let last = loaded.last ∙ found.last in
+    let did = c.keep_outcome.ensures in
+    let early = did.honest clean in
+    let earlier = loaded.answer.holds.honest early in
+    let kept = loaded.answer.holds.kept (found.answer.holds.kept was earlier) early in
+    let old = state g.S.Store c.args.self.now.conn in
+    let mid = state g.S.Store c.load_for.new.self.conn in
+    faults_later old mid (state g.S.Store c.keep_outcome.new.self.conn) _ _
+    (survives_then old (state g.S.Store c.find_place.new.self.conn) mid (λ _. ⊥) (λ _. ⊥) (λ _. ⊥) (λ clean db none. none) (λ clean db none. none) found.survives loaded.survives)
+    (did.crash (rw last may) (λ _. kept)) early c.keep_outcome.result (did.cause (rw last may) kept clean)

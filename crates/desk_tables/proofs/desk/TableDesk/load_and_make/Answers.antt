@@ -1,5 +1,5 @@
 use Rattle.desk_tables.proofs.Imports.{content_seen, desk_seen, AreTablesOf}
-use Rattle.table_schema.proofs.Exports.{◌≡◌, Err, ap, rules, state, survives_then, survives_weaker, changed}
+use Rattle.table_schema.proofs.Exports.{◌≡◌, Err, ap, rules, faults_later, state, survives_then, survives_weaker, changed}
 use Rattle.table_reads.specs.Known.{known_key, known_set}
 use Rattle.desk_tables.proofs.KeptLemmas.{recalled_in}
 use Rattle.desk_tables.proofs.desk.TableDesk.load_and_make.Goals as goal
@@ -37,3 +37,12 @@ returns-clause-crash g c = λ was.
     (AreTablesOf (changed (content_seen g.S.Store c.args.self.now.last.value) c.args.change.now)) (AreTablesOf (changed (content_seen g.S.Store c.args.self.now.last.value) c.args.change.now))
     (λ clean db none. absurd none) (λ clean db p. p) c.in_ok-load_for.ensures.survives
     (rw last at (c.make.ensures.crash (λ clean. c.in_ok-load_for.ensures.answer.holds.kept was (c.make.ensures.answer.honest clean))))
+
+pub returns-clause-cause : goal.returns-clause-cause
+returns-clause-cause g c = λ was clean.
+    let loaded = c.in_ok-load_for.ensures in
+    let did = c.make.ensures in
+    let early = did.answer.honest clean in
+    let kept = loaded.answer.holds.kept was early in
+    faults_later (state g.S.Store c.args.self.now.conn) (state g.S.Store c.load_for.new.self.conn) (state g.S.Store c.make.new.self.conn) _ _ loaded.survives (did.crash (λ _. kept)) early c.make.result
+    (did.cause kept clean)

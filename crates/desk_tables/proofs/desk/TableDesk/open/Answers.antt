@@ -17,7 +17,7 @@ returns-in-Ok g c =
       content = λ k clean holds. same ∙ (it.found.holds k clean (it.holds k holds)).0;
       kept = λ k clean holds good.
           let all = it.found.holds k clean (it.holds k holds) in
-          noted_kept g.S.Store d.last.value c.in-Ok.last.value d.family (remembered d) k c.found.ensures.last (same ∙ all.0) all.1 good (subst (λ f. IfSome f (λ t. t ≡ k.nodes)) (sym c.found.ensures.family) tt) (none_known (remembered d) k c.found.ensures.known c.found.ensures.place);
+          noted_kept g.S.Store d.last.value c.in-Ok.last.value d.family (remembered d) k c.found.ensures.last (same ∙ all.0) all.1 good (subst (λ f. IfSome f (λ t. t ≡ k.nodes)) (sym c.found.ensures.family) tt) (none_known (remembered d) k c.found.ensures.known c.found.ensures.place c.found.ensures.next);
       says = it.found.says;
       serves = λ k content clean low shows. it.found.serves k content clean low (it.under k content shows);
       counts = c.found.ensures.counts;

@@ -25,6 +25,7 @@ returns-in-Some g c =
                   sets = known_learnt (known_set mid.known) (known_set c.learn.new.self) (content_seen g.S.Store mid.last.value) found
                       (subst (λ h. image (content_seen g.S.Store h) found.key ≡ Some found.image) (sym did.last) said.0.1) now.known.sets c.learn.ensures.learns;
                   place = now.known.place;
+                  next = now.known.next;
                 };
               };
           fact = λ was clean. let said = rw c.in-Some.is at (did.answer.holds.fact was clean) in (said.0.0, said.1);
@@ -36,11 +37,12 @@ returns-in-Some g c =
           known = record {
             sets = known_less (known_set mid.known) (known_set c.learn.new.self) (content_seen g.S.Store mid.last.value) c.learn.ensures.keeps now.known.sets;
             place = now.known.place;
+            next = now.known.next;
           };
         }) clean;
         left = did.answer.left;
       };
-      sure = λ was clean. tt;
+      cause = λ was clean. tt;
       last = did.last;
       survives = did.survives;
       counts = did.counts;
@@ -55,7 +57,7 @@ returns-in-None g c =
         was_kept = did.answer.was_kept;
         left = did.answer.left;
       };
-      sure = λ was clean. tt;
+      cause = λ was clean. tt;
       last = did.last;
       survives = did.survives;
       counts = did.counts;

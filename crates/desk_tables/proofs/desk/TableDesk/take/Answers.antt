@@ -1,7 +1,7 @@
 use Rattle.desk_tables.proofs.Imports.{IsKept, remembered}
 use Rattle.table_schema.proofs.Exports.{◌≡◌, Err, refl, sym, ◌∙◌, rules}
 use Rattle.table_opening.proofs.StillLemmas.{still_then}
-use Rattle.desk_tables.proofs.BranchLemmas.{faulty, taken, refused, never_foreign, noted_anew, refused_desk, refusal_is, crashed}
+use Rattle.desk_tables.proofs.BranchLemmas.{faulty, taken, refused, caused, noted_anew, refused_desk, refusal_is, crashed}
 use Rattle.desk_tables.proofs.desk.TableDesk.take.Goals as goal
 
 pub invariant_of-self-in-Break-1 : goal.invariant_of-self-in-Break-1
@@ -27,7 +27,7 @@ returns-in_err-taken g c =
       };
       stays = λ was clean. refl;
       refusal = tt;
-      sure = λ was clean. never_foreign g.S.Store d.last.value d.conn c.take_nodes.new.conn c.in-Some.family c.take_nodes.new.family (remembered d) c.args.nodes.now d.stays fault did (over was) clean;
+      cause = λ was clean. caused g.S.Store d.last.value d.conn c.take_nodes.new.conn c.in-Some.family c.take_nodes.new.family (remembered d) c.args.nodes.now d.stays fault did (over was) clean;
       serves = λ was clean. tt;
       crash = λ was. crashed g.S.Store d.last.value d.conn c.take_nodes.new.conn c.in-Some.family c.take_nodes.new.family (remembered d) c.args.nodes.now d.stays (faulty fault) did (λ clean. over (was clean));
       counts = refl;
@@ -43,7 +43,7 @@ returns-in-Ok g c =
       answer = record { honest = did.honest; kept = λ was. it.kept (over was); fact = λ was. it.desk (over was) };
       stays = λ was. it.keeping (over was);
       refusal = tt;
-      sure = λ was clean. tt;
+      cause = λ was clean. tt;
       serves = λ was. it.serves (over was);
       crash = λ was. crashed g.S.Store d.last.value d.conn c.take_nodes.new.conn c.in-Some.family c.take_nodes.new.family (remembered d) c.args.nodes.now d.stays taken did (λ clean. over (was clean));
       counts = refl;
@@ -63,7 +63,7 @@ returns-in-Err g c =
       };
       stays = λ was clean. refl;
       refusal = did.answer.1;
-      sure = λ was clean. tt;
+      cause = λ was clean. tt;
       serves = λ was clean. tt;
       crash = λ was. crashed g.S.Store d.last.value d.conn c.take_nodes.new.conn c.in-Some.family c.take_nodes.new.family (remembered d) c.args.nodes.now d.stays (refused c.in-Err.refusal) did (λ clean. over (was clean));
       counts = refl;

@@ -1,0 +1,9 @@
+use Rattle.desk_run.proofs.WritingLemmas.{written_then, written_front}
+use Rattle.desk_run.proofs.writing.write_two.Goals as goal
+
+pub returns-in-Ok : goal.returns-in-Ok
+returns-in-Ok g c =
+    written_then c.args.first.now c.args.second.now _ _ _ c.write_text-in-Ok.result c.in-Ok.ensures c.write_text-in-Ok.ensures
+
+pub returns-in-Err : goal.returns-in-Err
+returns-in-Err g c = written_front c.args.first.now c.args.second.now _ _ c.in-Err.stop c.in-Err.ensures

@@ -1,0 +1,1 @@
+use Rattle.table_crashes.proofs.files.crash_files.Goals as goal
