@@ -13,6 +13,8 @@ COMMANDS = pathlib.Path(__file__).resolve().parent.parent
 ROOT = COMMANDS.parent
 PROGRAM = ROOT / "crates/bts/out/bts"
 TIME_LIMIT = 300
+# How often a server is begun that could not be at the port it was given.
+TRIES = 5
 
 # The release day of the manual, up to the upload that closes bug 1.
 RELEASE_DAY = """@from ann
@@ -86,14 +88,24 @@ def free_port():
         return server.getsockname()[1]
 
 
+def begun_server(store, options):
+    """A server of a desk that has told its port, at a port that nobody took meanwhile."""
+    for _ in range(TRIES):
+        port = free_port()
+        words = [program(), f"--port={port}", f"--store={store}", *options, "serve"]
+        server = subprocess.Popen(words, stdout=subprocess.PIPE, stderr=subprocess.DEVNULL)
+        if server.stdout.readline():
+            return port, server
+        server.wait()
+        server.stdout.close()
+    raise AssertionError(f"no server of {store} after {TRIES} tries")
+
+
 @contextlib.contextmanager
 def server_of(store, *options):
     """A server of a desk, which ends with the block: its port, and its process."""
-    port = free_port()
-    words = [program(), f"--port={port}", f"--store={store}", *options, "serve"]
-    server = subprocess.Popen(words, stdout=subprocess.PIPE, stderr=subprocess.DEVNULL)
+    port, server = begun_server(store, options)
     try:
-        server.stdout.readline()
         yield port, server
     finally:
         server.terminate()

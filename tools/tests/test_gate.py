@@ -117,6 +117,62 @@ class Gate(unittest.TestCase):
         self.assertIn(int(output), range(1, os.cpu_count() + 1))
 
 
+# Tests of which some pass, one fails, one fails in a part, one is left out, and one is in no order.
+SOME_TESTS = """import unittest
+class Good(unittest.TestCase):
+    def test_one(self):
+        pass
+    def test_two(self):
+        pass
+class Bad(unittest.TestCase):
+    def test_one(self):
+        self.assertEqual(1, 2)
+    def test_parts(self):
+        for part in range(3):
+            with self.subTest(part):
+                self.assertEqual(part, 0)
+    @unittest.skip("not here")
+    def test_skipped(self):
+        pass
+    def test_three(self):
+        pass
+"""
+
+
+class Tests(unittest.TestCase):
+    """`test_tools`, over a tree of its own."""
+
+    def ran(self, place, tests, status):
+        """What it says of these tests, by the names of their files."""
+        for part in ("tools/gate", "tools/tests", "commands/tests"):
+            pathlib.Path(place, part).mkdir(parents=True)
+        shutil.copy(GATE / "test_tools", pathlib.Path(place, "tools/gate"))
+        written(place, "commands/tests/desks.py", "")
+        for name, text in tests.items():
+            written(place, name, text)
+        return run([pathlib.Path(place, "tools/gate/test_tools")], status=status)[0]
+
+    def test_counts(self):
+        """Each test is counted once, whatever processor runs it, and what failed is told."""
+        with folder() as place:
+            said = self.ran(place, {
+                "commands/tests/test_some.py": SOME_TESTS,
+                "tools/tests/test_more.py": SOME_TESTS.replace("1, 2", "1, 1"),
+                "tools/tests/test_none.py": "import nothing_that_is_there"}, 1)
+        self.assertEqual(said.splitlines()[-1], "tools: 7 passed, 6 failed")
+        self.assertIn("1 != 2", said)
+        self.assertIn("nothing_that_is_there", said)
+
+    def test_good(self):
+        """It passes where all do, and fails where there is none."""
+        good = SOME_TESTS.partition("class Bad")[0]
+        with folder() as place:
+            said = self.ran(place, {"tools/tests/test_some.py": good}, 0)
+        self.assertEqual(said.splitlines()[-1], "tools: 2 passed, 0 failed")
+        with folder() as place:
+            self.assertIn("tools: 0 passed, 0 failed", self.ran(place, {}, 1))
+
+
 class CheckLayers(unittest.TestCase):
     """`check_layers`, by which `check_documents` compares layers and names."""
 
