@@ -5,15 +5,17 @@ line; 3 for a fault.
 """
 
 import argparse
+import contextlib
 import os
 import signal
 import sys
-from collections.abc import Callable, Iterable
+from collections.abc import Callable, Iterable, Iterator
 from typing import NoReturn
 
 from .desk_file import IN_USE, PROGRAM, FileDesk
 from .desk_served import Place, ServedDesk, is_port
 from .faults import BadWords, Fault
+from .snapshot import private_copy
 from .terminal import shown
 
 Desk = FileDesk | ServedDesk
@@ -73,6 +75,28 @@ def add_desk(
         "--socket", metavar="PATH", help="the Unix socket of the desk's server, for HTTP")
 
 
+def add_desk_to_read(parser: Parser) -> None:
+    """Puts the options that name a desk, of which a served one may be read in its file."""
+    parser.add_argument(
+        "--store", metavar="FILE", help="the file of the desk; of a served one a copy is read")
+    desk = parser.add_mutually_exclusive_group()
+    desk.add_argument(
+        "--port", type=port_number, metavar="N", help="the port of the desk's server")
+    desk.add_argument(
+        "--socket", metavar="PATH", help="the Unix socket of the desk's server, for HTTP")
+
+
+def is_served(options: argparse.Namespace) -> bool:
+    """Whether the options name a server."""
+    return options.port is not None or options.socket is not None
+
+
+def test_desk(parser: Parser, options: argparse.Namespace) -> None:
+    """Tests that the options name a desk."""
+    if options.store is None and not is_served(options):
+        parser.error("one of the arguments --store --port --socket is required")
+
+
 def add_program(parser: Parser) -> None:
     """Puts the option that names the program."""
     parser.add_argument(
@@ -89,6 +113,27 @@ def open_desk(options: argparse.Namespace) -> Desk:
     if options.store is not None:
         return FileDesk(options.program, options.store)
     return ServedDesk(place_of(options))
+
+
+@contextlib.contextmanager
+def desk_to_read(name: str, options: argparse.Namespace) -> Iterator[tuple[Desk, str | None]]:
+    """The desk that the options name, and the file of it whose tables can be read.
+
+    Of a served desk whose file is named a copy is read, at one moment.
+    Where that can't be made, which is told, the server is asked, and no table can be read.
+    """
+    if not is_served(options):
+        yield FileDesk(options.program, options.store), options.store
+        return
+    desk = ServedDesk(place_of(options))
+    with contextlib.ExitStack() as stack:
+        path = None
+        if options.store is not None:
+            try:
+                path = stack.enter_context(private_copy(options.store))
+            except Fault as fault:
+                tell(name, f"{fault}; the server is asked instead")
+        yield (desk if path is None else FileDesk(options.program, path)), path
 
 
 # The end.

@@ -9,8 +9,9 @@ An archived bug is in no list, so only its marks are drawn.
 
 The desk is in a file that no other process has open, or served on a port of this machine or on a
 Unix socket.
-The file has the branches too; a server doesn't tell them, so it needs --branches=FILE, a script
-with the `@branch` lines, plain or compressed by gzip or xz; `-` is standard input.
+The file has the branches too; a server doesn't tell them, so name its file too, of which a copy is
+read, or give --branches=FILE, a script with the `@branch` lines, plain or compressed by gzip or xz;
+`-` is standard input.
 
 The exit status is 0; 1 if there is no such bug; 2 for a wrong command line; 3 for a fault: the
 desk, its branches or an index can't be read, or output can't be written.
@@ -20,7 +21,7 @@ import argparse
 import contextlib
 import json
 import re
-from collections.abc import Iterable, Iterator
+from collections.abc import Iterable
 
 from . import picture_svg, picture_text
 from .bug_pages import MISSING, Page, listed, page_of, page_text
@@ -29,19 +30,22 @@ from .command import (
     REFUSED,
     Desk,
     Parser,
-    add_desk,
+    add_desk_to_read,
     add_program,
+    desk_to_read,
+    is_served,
     make_parser,
     named_path,
-    open_desk,
     run,
     tell,
+    test_desk,
     write_lines,
 )
 from .desk_copy import HandedIn
 from .faults import Fault
+from .graph_notes import differing_notes, notes_of, unseen_notes
 from .indexes import candidates
-from .nodes import children_of, read_nodes, source_of, wanted_trees
+from .nodes import Parents, children_of, read_nodes, source_of, wanted_trees
 from .picture_rows import Picture, Version, make_picture
 from .terminal import Progress, json_text, safe, shown
 from .versions import highest_versions, order_of
@@ -69,9 +73,9 @@ def graph_parser() -> Parser:
     """What the command line may be."""
     parser = make_parser(
         NAME, __doc__,
-        "graph (--store=FILE | (--port=N | --socket=PATH) --branches=FILE) [options] "
+        "graph [--store=FILE] [--port=N | --socket=PATH] [--branches=FILE] [options] "
         "[SUITE=PATH ..] N")
-    add_desk(parser)
+    add_desk_to_read(parser)
     parser.add_argument(
         "--branches", metavar="FILE", help="a script with the @branch lines of the served desk")
     kind = parser.add_mutually_exclusive_group()
@@ -98,9 +102,10 @@ def read_options(words: list[str]) -> argparse.Namespace:
     options.number = numbers[0]
     if options.svg == "":
         options.svg = f"bug-{options.number}.svg"
+    test_desk(parser, options)
     if options.store is None and not options.branches:
-        parser.error("a server needs --branches: it tells nobody its branches")
-    if options.store and options.branches:
+        parser.error("a server tells nobody its branches: give its --store too, or --branches")
+    if options.branches and not is_served(options):
         parser.error("--branches goes with a server: the file of a desk has its branches")
     if len({name for name, _ in options.suites}) != len(options.suites):
         parser.error("two suites have one name")
@@ -138,19 +143,6 @@ def read_suites(
     return having, [name for name, versions in suites.items() if package not in versions]
 
 
-def notes_of(
-    page: Page, trees: list[list[str]], nodes: list[str], missing: list[str],
-) -> Iterator[str]:
-    """What is said of a picture that lacks something."""
-    of_package = any(source_of(node) == page.package for tree in trees for node in tree)
-    if not nodes:
-        yield f"No version of {page.package} is known."
-    elif not of_package:
-        yield f"No branch has a version of {page.package}."
-    for name in missing:
-        yield f"{safe(name)} has no {page.package}."
-
-
 def listed_states(
     desk: Desk, page: Page, nodes: list[str],
 ) -> tuple[dict[str, bool], str | None]:
@@ -159,10 +151,9 @@ def listed_states(
 
 
 def drawn(
-    options: argparse.Namespace, desk: Desk, store: str, page: Page,
+    options: argparse.Namespace, desk: Desk, parents: Parents, page: Page,
 ) -> tuple[Picture, str | None]:
     """The picture of a bug, and the text of its page after the lists were asked for."""
-    parents = read_nodes(store, {page.package, *map(source_of, page.marks())})
     trees = wanted_trees(parents, page.package, page.marks())
     placed = [node for tree in trees for node in tree]
     sources = {page.package, *map(source_of, placed)}
@@ -178,24 +169,37 @@ def drawn(
             tuple(having.get(node, ())))
         for node in nodes
     }
-    notes = list(notes_of(page, trees, nodes, missing))
+    notes = [*notes_of(page, trees, nodes, missing), *unseen_notes(page, parents, versions)]
     order = order_of(options.program, nodes)
     return make_picture(page, parents, trees, versions, order, notes), text
 
 
-def gather(options: argparse.Namespace, desk: Desk) -> tuple[Picture | None, str]:
+def branches_of(
+    options: argparse.Namespace, file: str | None, sources: set[str],
+) -> tuple[Parents, list[str]]:
+    """What each version is based on, by the branches given or else the file, and notes on that."""
+    if options.branches:
+        handed_in = HandedIn(options.program, options.branches, lambda told: tell(NAME, told))
+        with contextlib.closing(handed_in):
+            given = read_nodes(handed_in.store, sources)
+        return given, list(differing_notes(given, file, sources)) if file else []
+    if file is None:
+        raise Fault(f"{options.store}: no branches are read of it: give --branches=FILE")
+    return read_nodes(file, sources), []
+
+
+def gather(
+    options: argparse.Namespace, desk: Desk, file: str | None,
+) -> tuple[Picture | None, str]:
     """The picture of the bug, or the desk's words where there is none."""
     before = page_text(desk, options.number)
     if before.startswith(MISSING):
         return None, before
     page = page_of(options.number, before)
-    with contextlib.ExitStack() as stack:
-        store = options.store
-        if options.branches:
-            handed_in = HandedIn(
-                options.program, options.branches, lambda told: tell(NAME, told))
-            store = stack.enter_context(contextlib.closing(handed_in)).store
-        picture, after = drawn(options, desk, store, page)
+    sources = {page.package, *map(source_of, page.marks())}
+    parents, notes = branches_of(options, file, sources)
+    picture, after = drawn(options, desk, parents, page)
+    picture.notes.extend(notes)
     if after not in (None, before):
         raise Fault(f"bug {options.number} was changed meanwhile: ask again")
     return picture, ""
@@ -241,7 +245,8 @@ def draw(options: argparse.Namespace) -> int:
     """Draws the bug, and answers the exit status."""
     if options.svg:
         picture_svg.test_path(options.svg)
-    picture, refusal = gather(options, open_desk(options))
+    with desk_to_read(NAME, options) as (desk, file):
+        picture, refusal = gather(options, desk, file)
     if picture is None:
         tell(NAME, refusal)
         return REFUSED

@@ -12,6 +12,7 @@ from typing import Protocol
 from .answers import SEVERITIES, Bug, Question
 from .indexes import Entry
 from .terminal import shown
+from .unseen import Unseen
 
 CRITICAL = "serious"
 MOST_SHOWN = 10
@@ -36,6 +37,7 @@ class Suite:
     `refused` has the entries that the desk refuses, each with its words.
     `numbers` has the numbers of all bugs by severity, and `critical` how many release-critical bugs
     each package has; `listed` has the bugs of the severities that are listed, by package.
+    `unseen` has what lists can't show for want of branches; None where that can't be told.
     """
 
     name: str
@@ -47,6 +49,7 @@ class Suite:
         default_factory=lambda: {severity: set() for severity in SEVERITIES})
     critical: collections.Counter[str] = dataclasses.field(default_factory=collections.Counter)
     listed: dict[str, list[Bug]] = dataclasses.field(default_factory=dict)
+    unseen: Unseen | None = None
 
     def take(self, package: str, bugs: list[Bug], listed: Iterable[str]) -> None:
         """Takes the list of a package."""
@@ -82,6 +85,11 @@ class Suite:
     def listed_packages(self) -> list[str]:
         """The packages that have listed bugs, by name."""
         return sorted(self.listed)
+
+
+def bug_line(bug: Bug) -> str:
+    """The row of a bug, as the desk's lists have it."""
+    return f"  {bug.number:9}  {bug.severity:<9}  {bug.state}  {shown(bug.title)}"
 
 
 def questions_of(suites: Iterable[Suite]) -> dict[Question, list[Suite]]:

@@ -4,21 +4,20 @@ The page is written beside its file and then takes its place, so that none is ha
 Bars are drawings without text: a text browser leaves them out, and loses no figure.
 """
 
-import html
-import re
 import time
 from collections.abc import Callable, Iterable, Iterator
 
 from . import files
 from .answers import SEVERITIES, Bug
+from .markup import text, title
 from .report import CRITICAL, Comparison, Suite, at_least
 from .report_text import NONE, comparison_parts, listed_title, versions_told
+from .report_unseen import is_unseen, unseen_part
 from .terminal import capitalized, plural
 
 BAR_WIDTH, BAR_HEIGHT = 120, 12
 # A longer table of versions is folded up.
 MOST_ROWS = 100
-CONTROL = re.compile("[\x00-\x08\x0b-\x1f\x7f-\x9f]")
 STYLE = """
 body { margin: 1.5rem auto; max-width: 76rem; padding: 0 1rem; line-height: 1.4;
   font-family: "DejaVu Sans", Verdana, sans-serif; font-size: 0.95rem;
@@ -45,17 +44,6 @@ svg { display: block; margin-top: 0.3rem }
 .wishlist { fill: #b5b5b5 }
 :target { background: #fff6cc } :target pre { background: #fff6cc }
 """
-
-
-def text(words: object) -> str:
-    """A text as HTML has it: nothing in it is markup, and no control character is left."""
-    return CONTROL.sub(
-        lambda found: found[0].encode("unicode_escape").decode(), html.escape(str(words)))
-
-
-def title(words: str) -> str:
-    """A bug's title, whose direction of writing does not reach beyond it."""
-    return f"<bdi>{text(words)}</bdi>"
 
 
 # Figures.
@@ -210,7 +198,10 @@ def head(suites: list[Suite]) -> Iterator[str]:
 def contents(suites: list[Suite], comparison: Comparison | None, severity: str) -> Iterator[str]:
     """The contents list."""
     listed = listed_title(severity)
-    yield '<nav><h2>Contents</h2><ul><li><a href="#severities">Bugs by severity</a>'
+    yield "<nav><h2>Contents</h2><ul>"
+    if is_unseen(suites):
+        yield '<li><a href="#unseen">What this report can\'t see</a>'
+    yield '<li><a href="#severities">Bugs by severity</a>'
     for place, suite in enumerate(suites, 1):
         yield f'<li><a href="#suite-{place}">{text(suite.name)}</a>: '
         yield f'<a href="#suite-{place}-bugs">{listed}</a>'
@@ -246,6 +237,8 @@ def parts(
     """All parts of the page."""
     yield from head(suites)
     yield from contents(suites, comparison, severity)
+    if is_unseen(suites):
+        yield from unseen_part(suites)
     yield from overview(suites)
     for place, suite in enumerate(suites, 1):
         yield from suite_part(place, suite, severity)

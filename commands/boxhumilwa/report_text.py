@@ -5,8 +5,9 @@ from collections.abc import Callable, Iterable, Iterator
 from typing import TextIO
 
 from .answers import SEVERITIES, Bug
-from .report import CRITICAL, Comparison, Suite, at_least
-from .terminal import capitalized, json_text, plural, shown
+from .report import CRITICAL, Comparison, Suite, at_least, bug_line
+from .report_unseen import unseen_lines, unseen_value
+from .terminal import capitalized, json_text, plural
 
 NONE = "-"
 
@@ -22,11 +23,6 @@ def listed_title(severity: str) -> str:
     return f"bugs that are {severity} or graver"
 
 
-def bug_row(bug: Bug) -> str:
-    """The row of a bug, as the desk's lists have it."""
-    return f"  {bug.number:9}  {bug.severity:<9}  {bug.state}  {shown(bug.title)}"
-
-
 # Text.
 
 
@@ -34,6 +30,7 @@ def suite_lines(suite: Suite, severity: str) -> Iterator[str]:
     """The lines of a suite: its figures, its worst packages, and the bugs listed."""
     critical = suite.count(at_least(CRITICAL))
     yield f"{suite.name}: {plural(len(suite.versions), 'package')}, {plural(suite.count(), 'bug')}"
+    yield from unseen_lines(suite)
     yield ""
     yield from (f"  {name:<16}  {suite.count([name]):9,}" for name in SEVERITIES)
     yield f"  {'release-critical':<16}  {critical:9,}"
@@ -57,7 +54,7 @@ def package_lines(bugs: dict[str, list[Bug]], heading: Callable[[str], str]) -> 
     for package in sorted(bugs):
         yield ""
         yield heading(package)
-        yield from map(bug_row, bugs[package])
+        yield from map(bug_line, bugs[package])
 
 
 def comparison_parts(comparison: Comparison) -> Iterator[tuple[str, dict[str, list[Bug]]]]:
@@ -164,6 +161,7 @@ def suite_value(suite: Suite) -> dict[str, object]:
         "versions": {package: suite.versions[package] for package in suite.listed_packages()},
         "listed": bugs_value(suite.listed),
         "refused": [{**entry._asdict(), "reason": reason} for entry, reason in suite.refused],
+        "unseen": unseen_value(suite.unseen),
     }
 
 
