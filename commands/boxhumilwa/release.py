@@ -40,6 +40,7 @@ from .command import (
 from .faults import Fault
 from .indexes import Entry, candidates
 from .report import CRITICAL, Suite, at_least, compare, gather, listed_numbers
+from .snapshot import private_copy
 from .terminal import Progress, shown
 from .unseen import unseen_of
 from .versions import highest_versions
@@ -142,7 +143,10 @@ def look_for_unseen(options: argparse.Namespace, file: str | None, suites: list[
             raise Fault(f"{options.store}: --fail-on-unseen needs its branches")
         tell(NAME, NO_BRANCHES)
         return
-    for suite, unseen in zip(suites, unseen_of(file, [suite.versions for suite in suites])):
+    # SQLite leaves a file beside a desk that it reads, so it reads a copy.
+    with private_copy(file) as path:
+        found = unseen_of(path, [suite.versions for suite in suites])
+    for suite, unseen in zip(suites, found):
         suite.unseen = unseen
 
 

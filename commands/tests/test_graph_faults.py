@@ -99,7 +99,7 @@ class Faults(InFolder):
             ("--store=x",), ("1",), ("--store=x", "1", "2"), ("--store=x", "0"),
             ("--store=x", "-1"), ("--store=x", "1234567890"), ("--store=x", "one"),
             ("--store=x", "=y", "1"),
-            ("--store=x", "--port=80", "1"), ("--port=80", "1"), ("--port=0", "--branches=x", "1"),
+            ("--socket=x", "--port=80", "1"), ("--port=80", "1"), ("--port=0", "--branches=x", "1"),
             ("--store=x", "--branches=x", "1"), ("--store=x", "a=b", "a=c", "1"),
             ("--port=80", "--branches=-", "a=-", "1"), ("--store=x", "--dot", "--text", "1"),
             ("--store=x", "--svg", "--dot", "1"), ("--store=x", "1", "\u0661"),

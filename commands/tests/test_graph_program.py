@@ -135,7 +135,8 @@ def picture_of(*words):
     errors = io.StringIO()
     with contextlib.redirect_stderr(errors):
         options = GRAPH.read_options([f"--program={desks.program()}", *map(str, words)])
-        picture, refusal = GRAPH.gather(options, GRAPH.open_desk(options))
+        with GRAPH.desk_to_read("graph", options) as (desk, file):
+            picture, refusal = GRAPH.gather(options, desk, file)
     if refusal:
         raise AssertionError(refusal)
     return picture, errors.getvalue()

@@ -222,14 +222,16 @@ class OverFile(unittest.TestCase):
         program = written(self.folder, "program", f"#!/bin/sh\n{script}\n")
         program.chmod(0o755)
         page, one = written(self.folder, "page", "old"), written(self.folder, "one", "foo 1\n")
-        words = [*desks.command("release"), f"--program={program}", "--store=x"]
+        store = make_desk(self.folder, "")
+        words = [*desks.command("release"), f"--program={program}", f"--store={store}"]
         process = subprocess.Popen([*words, f"--html={page}", f"s={one}"])
         wait_for(pathlib.Path(self.folder, "asked"))
         self.assertEqual(len([name for name in os.listdir(self.folder) if name[0] == "."]), 1)
         process.terminate()
         self.assertEqual(process.wait(desks.TIME_LIMIT), 128 + signal.SIGTERM)
         self.assertEqual(page.read_text(), "old")
-        self.assertEqual(sorted(os.listdir(self.folder)), ["asked", "one", "page", "program"])
+        self.assertEqual(sorted(os.listdir(self.folder)), [
+            "asked", "desk.db", "one", "page", "program"])
 
     def test_progress(self):
         """On a terminal standard error tells how far a long report is, and elsewhere it doesn't."""
@@ -252,7 +254,7 @@ class OverFile(unittest.TestCase):
         store, stable, testing = self.day()
         for words in (
             (stable,), (store,), (store, "stable"), (store, "=x"), (store, stable, stable),
-            (store, "--port=80", stable), ("--port=0", stable), ("--port=65536", stable),
+            ("--socket=x", "--port=80", stable), ("--port=0", stable), ("--port=65536", stable),
             (store, stable, "--severity=huge"), (store, stable, "--fail-on=huge"),
             (store, stable, testing, "--compare", "stable", "sid"), (store, "a=-", "b=-"),
         ):
@@ -296,8 +298,9 @@ class OverPort(unittest.TestCase):
 
     def test_same(self):
         """A server is asked the same, and the file that it has open is told with a hint."""
+        branches = "@branch bar/3 bar/2\n@branch zed/7\n@branch g++/1:2~3+4\n"
         with folder() as place:
-            store = make_desk(place, DAY)
+            store = make_desk(place, DAY + branches)
             page, index = pathlib.Path(place, "page"), written(place, "s", STABLE + "g++ 1:2~3+4\n")
             words = [f"s={index}", f"t={written(place, 't', TESTING)}", "--compare", "s", "t"]
             words += [f"--html={page}", "--severity=wishlist"]
@@ -305,8 +308,14 @@ class OverPort(unittest.TestCase):
             page_over_file = re.sub("Made on .*", "", page.read_text())
             with desks.served(store) as port:
                 over_port, errors = release(f"--port={port}", *words)
+                told = re.sub('(?s)<h2 id="unseen">.*?(?=<h2)', "", page.read_text())
+                told = re.sub("<li><a href=.#unseen.*\n", "", told)
+                self.assertEqual(re.sub("Made on .*", "", told), page_over_file)
+                self.assertEqual(over_port, over_file)
+                self.assertIn("what no branch has is not told", errors)
+                over_both = release(f"--port={port}", f"--store={store}", *words)
                 self.assertEqual(re.sub("Made on .*", "", page.read_text()), page_over_file)
-                self.assertEqual((over_port, errors), (over_file, ""))
+                self.assertEqual(over_both, (over_file, ""))
                 page.unlink()
                 output, errors = release(f"--store={store}", *words, status=3)
             self.assertEqual(output, "")
