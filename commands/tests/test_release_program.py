@@ -231,7 +231,7 @@ class OverFile(unittest.TestCase):
         self.assertEqual(process.wait(desks.TIME_LIMIT), 128 + signal.SIGTERM)
         self.assertEqual(page.read_text(), "old")
         self.assertEqual(sorted(os.listdir(self.folder)), [
-            "asked", "desk.db", "one", "page", "program"])
+            "asked", "desk.db", "desk.db-wal", "one", "page", "program"])
 
     def test_progress(self):
         """On a terminal standard error tells how far a long report is, and elsewhere it doesn't."""
