@@ -36,6 +36,9 @@ td.text, td.package, th, pre, h1, h2, summary, nav li { overflow-wrap: anywhere 
 table.bugs { width: 100%; table-layout: fixed }
 table.bugs th.number { width: 6rem } table.bugs th.severity { width: 6rem }
 table.bugs th.state { width: 3.5rem }
+@media (max-width: 40rem) {
+  th, td { padding: 0.15rem 0.3rem } table.bugs th.state { width: 2.5rem }
+  table.bugs th.number { width: 3.5rem } table.bugs th.severity { width: 5rem } }
 .figures { display: flex; flex-wrap: wrap; gap: 0.5rem 2rem; align-items: start }
 pre { white-space: pre-wrap; background: #f6f6f6; padding: 0.6rem; margin: 0.3rem 0 }
 svg { display: block; margin-top: 0.3rem }

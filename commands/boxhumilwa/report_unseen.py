@@ -109,9 +109,9 @@ def unplaced_table(suite: Suite, unseen: Unseen) -> Iterator[str]:
         return
     yield f"<h3>{text(suite.name)}: open bugs found only at versions in no branch</h3>"
     yield '<table class="bugs"><thead><tr><th class="number count">Bug<th class="severity">Severity'
-    yield "<th>Title<th>Found</thead>"
+    yield "<th>Title, and where it is found</thead>"
     for package in sorted(unseen.bugs):
-        yield f'<tbody><tr><td class="package" colspan="4">{text(package)} '
+        yield f'<tbody><tr><td class="package" colspan="3">{text(package)} '
         yield text(suite.versions[package])
         yield from map(unplaced_row, unseen.bugs[package])
         yield "</tbody>"
@@ -122,4 +122,4 @@ def unplaced_row(bug: Unplaced) -> str:
     """The row of a bug that no list has."""
     return (
         f'<tr><td class="count">{bug.number}<td>{bug.severity}<td class="text">{title(bug.title)}'
-        f'<td class="text">{text(" ".join(bug.found))}')
+        f'<br>found {text(" ".join(bug.found))}')
