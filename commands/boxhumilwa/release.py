@@ -33,11 +33,9 @@ from .command import (
     run,
     tell,
 )
-from .faults import Fault
-from .indexes import Entry, candidates
 from .report import CRITICAL, Suite, at_least, compare, gather, listed_numbers
+from .suites import read_suite, refusals
 from .terminal import Progress, shown
-from .versions import highest_versions
 
 NAME = "release"
 
@@ -88,32 +86,6 @@ def read_options(words: list[str]) -> argparse.Namespace:
 # The report.
 
 
-def read_suite(options: argparse.Namespace, name: str, path: str) -> Suite:
-    """A suite, of which each source has one version."""
-    refused: list[tuple[Entry, str]] = []
-    found = candidates(
-        path, set(options.package), lambda entry, reason: refused.append((entry, reason)))
-    doubled = {source: versions for source, versions in found.items() if len(versions) > 1}
-    highest = highest_versions(
-        options.program, doubled, lambda source, version, reason: refused.append(
-            (Entry(source, version, found[source][version]), reason)))
-    versions = {
-        source: highest[source] if source in doubled else next(iter(choices))
-        for source, choices in found.items() if source not in doubled or source in highest
-    }
-    lines = {source: found[source][version] for source, version in versions.items()}
-    return Suite(name, path, versions, lines, refused)
-
-
-def tell_refusals(suites: list[Suite]) -> None:
-    """Tells what is left out of suites; one of which nothing is left can't be reported."""
-    for suite in suites:
-        for told in suite.told_refusals():
-            tell(NAME, told)
-        if suite.refused and not suite.versions:
-            raise Fault(f"{suite.path}: the desk takes no package of it")
-
-
 def tell_missing(packages: list[str], suites: list[Suite]) -> None:
     """Tells of packages that were named and are in no suite."""
     for package in packages:
@@ -126,10 +98,12 @@ def report(options: argparse.Namespace) -> int:
     if options.html:
         report_page.test_path(options.html)
     desk = open_desk(options)
-    suites = [read_suite(options, name, path) for name, path in options.suites]
+    suites = [
+        read_suite(options.program, options.package, name, path) for name, path in options.suites]
     progress = Progress(NAME)
     gather(desk, suites, at_least(options.severity), progress)
-    tell_refusals(suites)
+    for told in refusals(suites):
+        tell(NAME, told)
     tell_missing(options.package, suites)
     named = {suite.name: suite for suite in suites}
     comparison = compare(*(named[name] for name in options.compare)) if options.compare else None
