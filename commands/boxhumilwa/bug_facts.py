@@ -10,7 +10,6 @@ A desk's file shows them as views of its tables; pages are put into tables of th
 """
 
 import contextlib
-import json
 import sqlite3
 from collections.abc import Iterable, Iterator
 from typing import NamedTuple
@@ -21,7 +20,6 @@ from .faults import Fault
 # The schemas of files that are read; the first has no packages that a bug affects.
 SCHEMAS = (1, 2, 3)
 WITHOUT_AFFECTS = 1
-BATCH = 1_000
 FOUND, FIXED = 0, 1
 STATES = ("open", "done")
 FACTS = (
@@ -39,15 +37,7 @@ VIEWS = {
         FROM main.blocks JOIN main.bugs USING (set_key)""",
 }
 NO_AFFECTS = "SELECT 0 AS key, '' AS package WHERE 0"
-# What a batch of bugs has beside its facts: the column that names the bugs, and the question.
-LISTS = {
-    "affects": ("key", "SELECT key, package FROM bug_affects"),
-    "found": ("key", f"SELECT key, source || '/' || version FROM bug_marks WHERE kind = {FOUND}"),
-    "fixed": ("key", f"SELECT key, source || '/' || version FROM bug_marks WHERE kind = {FIXED}"),
-    "blocked_by": ("key", "SELECT key, blocker FROM bug_blockers"),
-    "blocks": ("number", "SELECT number, waiting FROM bug_waiting"),
-    "merged_with": ("key", "SELECT key, number FROM bug_members"),
-}
+Row = tuple[str | int | None, ...]
 
 
 class Condition(NamedTuple):
@@ -57,40 +47,34 @@ class Condition(NamedTuple):
     values: tuple[str | int, ...] = ()
 
 
-class Facts(NamedTuple):
-    """A row of `facts`, and how many bugs wait on it where that was asked for."""
-
-    number: int
-    key: int
-    title: str
-    submitter: str
-    package: str
-    severity_place: int
-    closed: int
-    forwarded: str | None
-    owner: str | None
-    tag_bits: int
-    archived: int
-    waiting: int
-
-    @property
-    def severity(self) -> str:
-        """The name of its severity."""
-        return SEVERITIES[self.severity_place]
-
-    @property
-    def state(self) -> str:
-        """Its state, as pages say it."""
-        return STATES[self.closed]
-
-    @property
-    def tags(self) -> list[str]:
-        """The names of its tags, in their order."""
-        return [tag for place, tag in enumerate(TAGS) if self.tag_bits >> place & 1]
+# What is asked of a bug, as SQL over `facts`.
 
 
-# What a bug has of each list, in order.
-Lists = dict[str, list[str | int]]
+def named(column: str, words: Iterable[str]) -> str:
+    """The word that the number of a column stands for."""
+    arms = " ".join(f"WHEN {place} THEN '{word}'" for place, word in enumerate(words))
+    return f"CASE {column} {arms} END"
+
+
+SEVERITY, STATE = named("severity", SEVERITIES), named("closed", STATES)
+WAITING = "(SELECT count(*) FROM bug_waiting WHERE bug_waiting.number = facts.number)"
+MARKS = "SELECT source || '/' || version AS item FROM bug_marks WHERE bug_marks.key = facts.key"
+# The rows of lists, of which a page has the words on one line.
+LISTS = {
+    "tags": "SELECT name AS item FROM tag_names WHERE facts.tags & bit",
+    "affects": "SELECT package AS item FROM bug_affects WHERE bug_affects.key = facts.key",
+    "found": f"{MARKS} AND kind = {FOUND}",
+    "fixed": f"{MARKS} AND kind = {FIXED}",
+    "blocked_by": "SELECT blocker AS item FROM bug_blockers WHERE bug_blockers.key = facts.key",
+    "blocks": "SELECT waiting AS item FROM bug_waiting WHERE bug_waiting.number = facts.number",
+    "merged_with": "SELECT bug_members.number AS item FROM bug_members "
+        "WHERE bug_members.key = facts.key AND bug_members.number <> facts.number",
+}
+
+
+def made_of_list(name: str, made: str) -> str:
+    """What is made of the items of a list, in their order."""
+    return f"(SELECT {made} FROM ({LISTS[name]} ORDER BY 1))"
 
 
 # Files.
@@ -133,41 +117,22 @@ def opened_file(path: str, copy: str) -> Iterator[sqlite3.Connection]:
 # Questions.
 
 
+def add_tags(connection: sqlite3.Connection) -> None:
+    """Puts the names of tags, which go by their bytes as their numbers do."""
+    connection.execute("CREATE TEMP TABLE tag_names (bit INTEGER PRIMARY KEY, name TEXT)")
+    connection.executemany(
+        "INSERT INTO tag_names VALUES (?, ?)", ((1 << place, tag) for place, tag in enumerate(TAGS)))
+
+
 def select(
-    connection: sqlite3.Connection, conditions: Iterable[Condition], order: str, waiting: str,
-) -> Iterator[Facts]:
-    """The bugs that meet all conditions, in an order; `waiting` is asked of each."""
+    connection: sqlite3.Connection, columns: Iterable[str], conditions: Iterable[Condition],
+    order: str,
+) -> Iterator[Row]:
+    """These columns of the bugs that meet all conditions, in an order."""
     texts, values = ["1"], list[str | int]()
     for condition in conditions:
         texts.append(f"({condition.text})")
         values.extend(condition.values)
-    rows = connection.execute(
-        f"SELECT {', '.join(FACTS)}, {waiting} AS waiting FROM facts "
-        f"WHERE {' AND '.join(texts)} ORDER BY {order}", values)
-    return map(Facts._make, rows)
-
-
-def gathered(rows: Iterable[tuple[int, str | int]]) -> dict[int, list[str | int]]:
-    """The second values of rows by their first ones, in order."""
-    found: dict[int, list[str | int]] = {}
-    for key, value in rows:
-        found.setdefault(key, []).append(value)
-    return found
-
-
-def lists_of(connection: sqlite3.Connection, bugs: list[Facts]) -> Iterator[Lists]:
-    """What each bug of a batch has of each list."""
-    named = {
-        "key": json.dumps([bug.key for bug in bugs]),
-        "number": json.dumps([bug.number for bug in bugs])}
-    have = {
-        name: gathered(connection.execute(
-            f"SELECT * FROM ({question}) WHERE {column} IN (SELECT value FROM json_each(?)) "
-            "ORDER BY 1, 2", (named[column],)))
-        for name, (column, question) in LISTS.items()}
-    for bug in bugs:
-        lists = {
-            name: have[name].get(bug.key if column == "key" else bug.number, [])
-            for name, (column, _) in LISTS.items()}
-        lists["merged_with"] = [other for other in lists["merged_with"] if other != bug.number]
-        yield lists
+    return connection.execute(
+        f"SELECT {', '.join(columns)} FROM facts WHERE {' AND '.join(texts)} ORDER BY {order}",
+        values)

@@ -22,13 +22,21 @@ import sqlite3
 import sys
 from collections.abc import Iterable, Iterator
 
-from . import found_forms
-from .bug_facts import Condition, Facts, opened_file, select, told_faults
+from .bug_facts import Condition, Row, add_tags, opened_file, select, told_faults
 from .command import DONE, REFUSED, place_of, run, tell, write_lines
 from .desk_file import FileDesk
 from .desk_served import ServedDesk
 from .find_words import is_served, read_options
-from .finding import ORDERS, WAITING, add_functions, conditions, in_package, numbered
+from .finding import ORDERS, add_functions, conditions, in_package, numbered
+from .found_forms import (
+    csv_columns,
+    csv_lines,
+    json_columns,
+    json_lines,
+    number_lines,
+    table_columns,
+    table_lines,
+)
 from .listed_bugs import Desk, Question, listed
 from .page_facts import Reading, opened_pages
 from .people import maintained
@@ -138,35 +146,41 @@ def asked_desk(
     else:
         opened = asked_file(options)
     with opened as (connection, wanted):
-        add_functions(connection)
-        yield connection, wanted
+        with told_faults(options.store or str(place_of(options))):
+            add_functions(connection)
+            add_tags(connection)
+            yield connection, wanted
 
 
 # Answers.
 
 
 def answer_lines(
-    connection: sqlite3.Connection, options: argparse.Namespace, bugs: Iterable[Facts],
+    connection: sqlite3.Connection, options: argparse.Namespace, wanted: list[Condition],
 ) -> Iterable[str]:
     """The lines of the answer, in the form that is asked for."""
-    if options.numbers:
-        return found_forms.number_lines(bugs)
-    if options.json:
-        return found_forms.json_lines(connection, bugs)
+    def ask(columns: Iterable[str]) -> Iterable[Row]:
+        """These columns of the bugs."""
+        return select(connection, columns, wanted, ORDERS[options.sort])
+
     is_terminal = sys.stdout.isatty()
+    if options.numbers:
+        return number_lines(ask(["number"]))
+    if options.json:
+        return json_lines(ask(json_columns()))
     if options.csv:
-        return found_forms.csv_lines(connection, bugs, is_terminal)
+        cells = csv_columns()
+        return csv_lines(list(cells), ask(cells.values()), is_terminal)
+    columns = table_columns(options.sort == "waiting")
     width = shutil.get_terminal_size().columns if is_terminal else None
-    return found_forms.table_lines(bugs, options.sort == "waiting", width)
+    return table_lines(list(columns), ask(columns.values()), width)
 
 
 def find(options: argparse.Namespace) -> int:
     """Finds, and answers the exit status."""
     try:
-        with asked_desk(options) as (connection, wanted), told_faults(str(options.store)):
-            waiting = WAITING if options.sort == "waiting" else "0"
-            bugs = select(connection, wanted, ORDERS[options.sort], waiting)
-            write_lines(answer_lines(connection, options, bugs))
+        with asked_desk(options) as (connection, wanted):
+            write_lines(answer_lines(connection, options, wanted))
     except Refused as refused:
         tell(NAME, refused)
         return REFUSED

@@ -10,17 +10,16 @@ import sqlite3
 from collections.abc import Callable, Iterator, Mapping, Sequence
 
 from .answers import SEVERITIES, TAGS
-from .bug_facts import STATES, Condition
+from .bug_facts import STATES, WAITING, Condition
 from .people import is_person
 
 # What stands on a page where there is nothing.
 NONE = "-"
 YES, NO, BOTH = "yes", "no", "both"
-WAITING = "(SELECT count(*) FROM bug_waiting WHERE bug_waiting.number = facts.number)"
 # How answers are sorted; ties go by number.
 ORDERS = {
     "number": "number", "severity": "severity, number", "package": "package, number",
-    "waiting": "waiting DESC, number"}
+    "waiting": f"{WAITING} DESC, number"}
 
 
 def add_functions(connection: sqlite3.Connection) -> None:

@@ -1,142 +1,141 @@
-"""The bugs that `find` found as a table, as CSV, as JSON, or as their numbers alone."""
+"""The bugs that `find` found as a table, as CSV, as JSON, or as their numbers alone.
+
+Each form names the columns that it asks of the bugs, and makes lines of their rows.
+"""
 
 import csv
-import io
 import itertools
-import json
-import sqlite3
 from collections.abc import Iterable, Iterator
 
-from .bug_facts import BATCH, Facts, Lists, lists_of
-from .terminal import json_text, padded, plural, safe, shown, wrapped
+from .bug_facts import LISTS, SEVERITY, STATE, WAITING, Row, made_of_list
+from .terminal import columns, json_text, plural, safe, shown, wrapped
 
 # The widest that the column of packages is made, and the narrowest that the one of titles is.
 PACKAGES, TITLES = 30, 20
 GAP = "  "
-COLUMNS = (
-    "number", "package", "severity", "state", "archived", "title", "submitter", "owner",
-    "forwarded", "tags", "affects", "found", "fixed", "blocked_by", "blocks", "merged_with")
 # What a spreadsheet takes for the beginning of a formula, and what keeps it a text.
-FORMULAS = ("=", "+", "-", "@", "\t", "\r", "＝", "＋", "－", "＠")
+FORMULAS = ("=", "+", "-", "@", "＝", "＋", "－", "＠")
 TEXT_SIGN = "'"
+TEXTS = ("title", "submitter", "owner", "forwarded")
 
 
-# Whole bugs.
+def whole_bug(truth: tuple[str, str], of_list: str) -> dict[str, str]:
+    """All that a page says of a bug, as SQL, with words for no and yes, and a form of lists."""
+    no, yes = truth
+    return {
+        "number": "number", "package": "package", "severity": SEVERITY, "state": STATE,
+        "archived": f"CASE archived WHEN 0 THEN {no} ELSE {yes} END",
+        **{name: name for name in TEXTS}, **{name: made_of_list(name, of_list) for name in LISTS}}
 
 
-def batches(bugs: Iterable[Facts]) -> Iterator[list[Facts]]:
-    """The bugs in pieces of some size."""
-    bugs = iter(bugs)
-    while batch := list(itertools.islice(bugs, BATCH)):
-        yield batch
+# JSON.
 
 
-def whole_bug(bug: Facts, lists: Lists) -> dict[str, object]:
-    """All that a page says of a bug, by its columns."""
-    values: dict[str, object] = {
-        "number": bug.number, "package": bug.package, "severity": bug.severity,
-        "state": bug.state, "archived": bool(bug.archived), "title": bug.title,
-        "submitter": bug.submitter, "owner": bug.owner, "forwarded": bug.forwarded,
-        "tags": bug.tags, **lists}
-    return {column: values[column] for column in COLUMNS}
+def json_columns() -> list[str]:
+    """The one column of JSON: an object."""
+    whole = whole_bug(("json('false')", "json('true')"), "json_group_array(item)")
+    members = ", ".join(f"'{name}', {value}" for name, value in whole.items())
+    return [f"json_object({members})"]
 
 
-def whole_bugs(
-    connection: sqlite3.Connection, bugs: Iterable[Facts],
-) -> Iterator[dict[str, object]]:
-    """All that pages say of these bugs."""
-    for batch in batches(bugs):
-        yield from map(whole_bug, batch, lists_of(connection, batch))
-
-
-def json_lines(connection: sqlite3.Connection, bugs: Iterable[Facts]) -> Iterator[str]:
+def json_lines(rows: Iterable[Row]) -> Iterator[str]:
     """An array of JSON with an object for each bug, on a line of its own."""
     yield "["
     before = ""
-    for bug in whole_bugs(connection, bugs):
+    for row in rows:
         if before:
             yield f"{before},"
-        before = json_text(json.dumps(bug, ensure_ascii=False))
+        before = json_text(str(row[0]))
     if before:
         yield before
     yield "]"
 
 
-def text_cell(text: str) -> str:
-    """A text as a cell that no spreadsheet takes for a formula."""
-    return TEXT_SIGN + text if text.startswith(FORMULAS) else text
+# CSV.
 
 
-def cell(value: object) -> str:
-    """A value as a cell: words with blanks between, nothing where there is none."""
-    if isinstance(value, bool):
-        return "yes" if value else "no"
-    if isinstance(value, list):
-        return " ".join(map(str, value))
-    return "" if value is None else text_cell(value) if isinstance(value, str) else str(value)
+class LineMaker:
+    """What a writer of CSV writes to: it hands each line back."""
+
+    def write(self, line: str) -> str:
+        """The line."""
+        return line
 
 
-def csv_lines(
-    connection: sqlite3.Connection, bugs: Iterable[Facts], is_terminal: bool,
-) -> Iterator[str]:
+def text_cell(column: str) -> str:
+    """A text as a cell that no spreadsheet takes for a formula, as SQL."""
+    signs = ", ".join(f"'{sign}'" for sign in FORMULAS)
+    return (
+        f"CASE WHEN substr({column}, 1, 1) IN ({signs}) THEN char({ord(TEXT_SIGN)}) || {column} "
+        f"ELSE {column} END")
+
+
+def csv_columns() -> dict[str, str]:
+    """The columns of CSV, by their names; a list is words with blanks between."""
+    whole = whole_bug(("'no'", "'yes'"), "group_concat(item, ' ')")
+    return whole | {name: text_cell(name) for name in TEXTS}
+
+
+def csv_lines(names: list[str], rows: Iterable[Row], is_terminal: bool) -> Iterator[str]:
     """Lines of CSV without their line feeds; a terminal is not steered by them."""
-    rows = ([cell(value) for value in bug.values()] for bug in whole_bugs(connection, bugs))
-    for row in itertools.chain([list(COLUMNS)], rows):
-        line = io.StringIO(newline="")
-        csv.writer(line, lineterminator="").writerow(map(shown, row) if is_terminal else row)
-        yield f"{line.getvalue()}\r"
+    writer = csv.writer(LineMaker(), lineterminator="")
+    for row in itertools.chain([names], rows):
+        line = str(writer.writerow(row))
+        yield f"{shown(line) if is_terminal else line}\r"
 
 
-# Some of each bug.
+# Numbers.
 
 
-def number_lines(bugs: Iterable[Facts]) -> Iterator[str]:
+def number_lines(rows: Iterable[Row]) -> Iterator[str]:
     """The numbers alone."""
-    return (str(bug.number) for bug in bugs)
+    return (str(row[0]) for row in rows)
 
 
-def row_cells(bug: Facts, is_waiting: bool) -> list[str]:
-    """The cells of a bug's row."""
-    state = f"{bug.state}, archived" if bug.archived else bug.state
-    waiting = [str(bug.waiting)] if is_waiting else []
-    return [str(bug.number), bug.severity, state, *waiting, bug.package, safe(bug.title)]
+# A table.
 
 
-def widths_of(rows: list[list[str]], width: int | None) -> list[int | None]:
-    """The widths of columns: those of their cells, and what is left of the width for titles."""
+def table_columns(is_waiting: bool) -> dict[str, str]:
+    """The columns of a table, by their headings."""
+    archived = f"{STATE} || CASE archived WHEN 0 THEN '' ELSE ', archived' END"
+    waiting = {"waiting": WAITING} if is_waiting else {}
+    return {
+        "number": "number", "severity": SEVERITY, "state": archived, **waiting,
+        "package": "package", "title": "title"}
+
+
+def widths_of(rows: list[list[str]], width: int | None) -> tuple[list[int], int | None]:
+    """The widths of columns but the last: those of their cells; and what is left for titles."""
     widths = [max(map(len, column)) for column in list(zip(*rows))[:-1]]
     if width is None:
-        return [*widths, None]
+        return widths, None
     widths[-1] = min(widths[-1], PACKAGES)
-    left = width - sum(widths) - len(GAP) * len(widths)
-    return [*widths, max(left, TITLES)]
+    return widths, max(width - sum(widths) - len(GAP) * len(widths), TITLES)
 
 
-def cell_lines(text: str, width: int | None) -> list[str]:
-    """The lines of a cell, each as wide as its column."""
-    if width is None:
-        return [text]
-    return [padded(line, width) for line in wrapped(text, width)]
+def row_lines(cells: list[str], widths: list[int], title_width: int | None) -> Iterator[str]:
+    """The lines of a row: several where a package or a title is wider than its column."""
+    number, *words, title = cells
+    words = [word.ljust(width) for word, width in zip(words, widths[1:])]
+    start = GAP.join([number.rjust(widths[0]), *words[:-1]])
+    packages, titles = [words[-1]], [title]
+    if title_width is not None:
+        packages = wrapped(words[-1], widths[-1])
+        titles = wrapped(title, title_width) if columns(title) > title_width else titles
+    for place in range(max(len(packages), len(titles))):
+        package = packages[place] if place < len(packages) else ""
+        part = titles[place] if place < len(titles) else ""
+        yield f"{start}{GAP}{package.ljust(widths[-1])}{GAP}{part}".rstrip(" ")
+        start = " " * len(start)
 
 
-def row_lines(cells: list[str], widths: list[int | None]) -> Iterator[str]:
-    """The lines of a row: several where a cell is wider than its column."""
-    wide = list(map(cell_lines, cells, widths))
-    for place in range(max(map(len, wide))):
-        parts = (
-            lines[place] if place < len(lines) else " " * (width or 0)
-            for lines, width in zip(wide, widths))
-        yield GAP.join(parts).rstrip(" ")
-
-
-def table_lines(bugs: Iterable[Facts], is_waiting: bool, width: int | None) -> Iterator[str]:
+def table_lines(headings: list[str], found: Iterable[Row], width: int | None) -> Iterator[str]:
     """A table for people: how many bugs there are, and a row for each."""
-    waiting = ["waiting"] if is_waiting else []
-    rows = [row_cells(bug, is_waiting) for bug in bugs]
+    rows = [[*map(str, row[:-1]), safe(str(row[-1]))] for row in found]
     yield plural(len(rows), "bug")
     if rows:
-        rows.insert(0, ["number", "severity", "state", *waiting, "package", "title"])
-        widths = widths_of(rows, width)
+        rows.insert(0, headings)
+        widths, title_width = widths_of(rows, width)
         yield ""
-        for number, *others in rows:
-            yield from row_lines([number.rjust(widths[0] or 0), *others], widths)
+        for row in rows:
+            yield from row_lines(row, widths, title_width)

@@ -48,6 +48,8 @@ def capitalized(words: str) -> str:
 
 def columns(text: str) -> int:
     """How many columns of a terminal a text takes."""
+    if text.isascii():
+        return len(text)
     return sum(letter_columns(letter) for letter in text)
 
 
