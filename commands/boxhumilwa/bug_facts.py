@@ -120,8 +120,8 @@ def opened_file(path: str, copy: str) -> Iterator[sqlite3.Connection]:
 def add_tags(connection: sqlite3.Connection) -> None:
     """Puts the names of tags, which go by their bytes as their numbers do."""
     connection.execute("CREATE TEMP TABLE tag_names (bit INTEGER PRIMARY KEY, name TEXT)")
-    connection.executemany(
-        "INSERT INTO tag_names VALUES (?, ?)", ((1 << place, tag) for place, tag in enumerate(TAGS)))
+    rows = [(1 << place, tag) for place, tag in enumerate(TAGS)]
+    connection.executemany("INSERT INTO tag_names VALUES (?, ?)", rows)
 
 
 def select(

@@ -1,25 +1,18 @@
-"""Tests of `find`: its answers, their forms, where a desk is read, and what is refused."""
+"""Tests of `find`: its answers, their forms, and words that are refused."""
 
-import contextlib
-import csv
 import gzip
 import io
 import json
-import os
-import pathlib
 import re
-import shutil
-import sqlite3
-import subprocess
 import sys
 import unittest
 import unittest.mock
 
 import desks
-from desks import command, folder, make_desk, run, served, written
-from test_find_random import answers, found, output_kept
+from desks import command, folder, make_desk, run, written
+from finds import found, on_terminal, output_kept
 
-from boxhumilwa import find, page_facts
+from boxhumilwa import find
 from boxhumilwa.answers import TAGS
 
 DESK = """@from Ann Other <ann@foo.example>
@@ -52,34 +45,6 @@ number  severity   state  waiting  package  title
      4  serious    open   0        bar      breaks the build of foo
      5  serious    open   0        bar      breaks the build of foo
 """
-SCHEMAS = desks.ROOT / "crates/example_tables/data/schemas"
-# What would steer a terminal, a line, a spreadsheet, JSON or SQL.
-TITLES = (
-    "\x9b2J\u202e \u2028 \u2029 \x85 x", "=cmd|' /C calc'!A0", "+1", "-1+2", "@SUM(1)",
-    '"\u202e", "', "' OR 1 = 1 --", "\\x1b[2J \\u202e", "\ufeff\u200b\U000e0041 %s {0}", "＝1",
-    "a,b;c\td", "*[a]?",
-)
-SPREAD = ("=", "+", "-", "@", "＝")
-
-
-def on_terminal(width, *words):
-    """What a command writes to a terminal of so many columns."""
-    terminal, side = os.openpty()
-    try:
-        with os.fdopen(side, "wb") as stream:
-            process = subprocess.Popen(
-                [*command("find"), f"--program={desks.program()}", *words], stdout=stream,
-                stdin=stream, stderr=stream, env=os.environ | {"COLUMNS": str(width)})
-        pieces = []
-        with contextlib.suppress(OSError):
-            while piece := os.read(terminal, 10_000):
-                pieces.append(piece)
-        process.wait(desks.TIME_LIMIT)
-    finally:
-        os.close(terminal)
-    # The terminal puts a carriage return before each line feed, and CSV has one there already.
-    return re.sub("\r+\n", "\n", b"".join(pieces).decode())
-
 
 class OnDesk(unittest.TestCase):
     """Answers over one desk."""
@@ -148,14 +113,17 @@ class OnDesk(unittest.TestCase):
     def test_maintainers(self):
         """Packages go by a file of maintainers, of which a bad line is told with its number."""
         path = written(self.folder, "m.gz", gzip.compress(
-            b"# all\nfoo\tAnn Other <ann@foo.example>\nbar bob@bar.example (Bob)\n\nzed  Ann Other\n"))
+            b"# all\nfoo\tAnn Other <ann@foo.example>\nbar bob@bar.example (Bob)\n\n"
+            b"zed  Ann Other\n"))
         for names, wanted in (
-            (["ann other"], [1, 2, 3]), (["Bob"], [4, 5]), (["bob", "ann@foo.example"], [1, 2, 3, 4, 5]),
+            (["ann other"], [1, 2, 3]), (["Bob"], [4, 5]),
+            (["bob", "ann@foo.example"], [1, 2, 3, 4, 5]),
         ):
             words = [f"--maintainers={path}", *(f"--maintainer={name}" for name in names)]
             self.assertEqual(self.numbers(*words), wanted)
         output, errors = found(self.store, f"--maintainers={path}", "--maintainer=cy")
-        self.assertEqual((output, errors), ("0 bugs\n", f"find: {path}: no package in it is theirs\n"))
+        self.assertEqual(output, "0 bugs\n")
+        self.assertEqual(errors, f"find: {path}: no package in it is theirs\n")
         for text, told in ((b"foo A\nbar\n", "bar:2: "), (b"\xff\n", "bar:1: not UTF-8")):
             path = written(self.folder, "bar", text)
             output, errors = found(
@@ -199,7 +167,8 @@ class OnDesk(unittest.TestCase):
         send = [*command("send"), self.store, options, "--from=ann"]
         numbers = found(self.store, "--numbers", "--tag=patch")[0]
         lines = "".join(f"severity {number} minor\n" for number in numbers.split())
-        self.assertEqual(run(send, lines)[0], "> severity 1 minor\nOK 1\n> severity 2 minor\nOK 2\n")
+        self.assertEqual(
+            run(send, lines)[0], "> severity 1 minor\nOK 1\n> severity 2 minor\nOK 2\n")
         script = '"$@" merge $(cat)'
         numbers = found(self.store, "--numbers", "--title=breaks*")[0]
         told, _ = run(["sh", "-c", script, "sh", *send], numbers)
@@ -209,8 +178,9 @@ class OnDesk(unittest.TestCase):
 
     def test_tags(self):
         """The tags are those of the program, in its order."""
-        script = ["@from a", "@report aa - normal x", f"tags 1 + {' '.join(reversed(TAGS))}", "@show 1"]
-        told, _ = run([desks.program(), "run"], "\n".join(script))
+        tags = f"tags 1 + {' '.join(reversed(TAGS))}"
+        script = "\n".join(["@from a", "@report aa - normal x", tags, "@show 1"])
+        told, _ = run([desks.program(), "run"], script)
         self.assertIn(f"\nTags: {' '.join(TAGS)}\n", told)
         manual = (desks.ROOT / "docs/MANUAL.md").read_text(encoding="utf-8")
         listed = re.search(r"^The tags are (.*?)\.$", manual, re.MULTILINE | re.DOTALL)[1]
@@ -236,178 +206,6 @@ class OnDesk(unittest.TestCase):
                         find.main(words)
                 self.assertEqual((ended.exception.code, output.read()), (2, b""))
                 self.assertRegex(errors.getvalue(), "^find: error: [^\n]*\n$")
-
-
-class Hostile(unittest.TestCase):
-    """Titles that would steer something."""
-
-    def setUp(self):
-        place = folder()
-        self.folder = place.__enter__()
-        self.addCleanup(place.__exit__, None, None, None)
-        script = "".join(f"@report foo 1 grave {title}\n" for title in TITLES)
-        self.store = f"--store={make_desk(self.folder, script)}"
-
-    def assert_steers_nothing(self, text):
-        """A text has nothing but line feeds and what can be seen."""
-        self.assertTrue(text.replace("\n", "").replace("\t", "").isprintable(), ascii(text))
-
-    def test_terminal(self):
-        """On a terminal no form has what would steer it; the table never has it."""
-        for form in ([], ["--csv"], ["--json"], ["--numbers"]):
-            self.assert_steers_nothing(on_terminal(80, self.store, *form))
-            self.assert_steers_nothing(on_terminal(10, self.store, *form))
-        self.assert_steers_nothing(found(self.store)[0])
-        self.assertEqual(found(self.store)[0].count("\n"), len(TITLES) + 3)
-
-    def test_json(self):
-        """JSON has each title as it is, and nothing that steers."""
-        text = found(self.store, "--json")[0]
-        self.assert_steers_nothing(text)
-        self.assertEqual([bug["title"] for bug in json.loads(text)], list(TITLES))
-
-    def test_csv(self):
-        """In a file each title is as it is, but for a sign before what begins a formula."""
-        text = found(self.store, "--csv")[0]
-        titles = [row["title"] for row in csv.DictReader(io.StringIO(text, newline=""))]
-        self.assertEqual(
-            titles, [f"'{it}" if it.startswith(SPREAD) else it for it in TITLES])
-
-    def test_patterns(self):
-        """A title is no SQL, and each is found by a pattern that quotes its signs."""
-        for number, title in enumerate(TITLES, 1):
-            pattern = re.sub(r"([*?[])", r"[\1]", title)
-            self.assertEqual(
-                found(self.store, "--numbers", f"--title={pattern}")[0], f"{number}\n")
-        self.assertEqual(found(self.store, "--numbers", "--owner=' OR 1 = 1 --")[0], "")
-
-
-class Places(unittest.TestCase):
-    """Where a desk is read."""
-
-    def setUp(self):
-        place = folder()
-        self.folder = place.__enter__()
-        self.addCleanup(place.__exit__, None, None, None)
-
-    def test_served(self):
-        """A server is read by its pages, and by a copy of its file where that is named."""
-        store = make_desk(self.folder, DESK)
-        wanted = found(f"--store={store}", "--json", "--archived=both")[0]
-        with served(store) as port:
-            with unittest.mock.patch.object(page_facts, "MOST_MISSING", 20):
-                output, errors = found(f"--port={port}", "--json", "--archived=both")
-            self.assertEqual(output, wanted)
-            self.assertEqual(errors, (
-                f"find: port {port}: the pages of bugs 1 to 26 are read, and no later ones: "
-                "the last 20 numbers are missing\n"))
-            output, errors = found(f"--port={port}", "--last=6", "--json", "--archived=both")
-            self.assertEqual(output, wanted)
-            self.assertEqual(errors, f"find: port {port}: the pages of bugs 1 to 6 are read\n")
-            output, _ = found(f"--port={port}", "--first=2", "--last=4", "--numbers")
-            self.assertEqual(output, "2\n3\n4\n")
-            for more in ([], [f"--port={port}"]):
-                told = found(f"--store={store}", *more, "--json", "--archived=both")
-                self.assertEqual(told, (wanted, ""))
-            none = f"{self.folder}/none"
-            output, errors = found(f"--port={port}", f"--store={none}", "--last=6", "--json")
-            self.assertIn(f"find: {none}: it is not there or not readable", errors)
-            self.assertEqual(len(json.loads(output)), 5)
-            for where in (["--last=6"], [f"--store={store}"]):
-                words = [f"--port={port}", *where, "--numbers", "--at=foo/1.0-1"]
-                self.assertEqual(found(*words)[0], "1\n3\n")
-            words = [f"--port={port}", "--last=6", "--at=foo/1_"]
-            self.assertIn("404", found(*words, status=1)[1])
-
-    def test_socket(self):
-        """The same over a Unix socket."""
-        with desks.over_socket(make_desk(self.folder, DESK)) as (_, path):
-            self.assertEqual(found(f"--socket={path}", "--last=6", "--owner=-")[0].split("\n")[0],
-                             "4 bugs")
-
-    def test_first(self):
-        """A desk whose numbers begin late, by its pages."""
-        store = pathlib.Path(self.folder, "late.db")
-        run([desks.program(), f"--store={store}", "--first=1200", "init"])
-        run([desks.program(), f"--store={store}", "run"], "@report aa - normal x\n" * 3)
-        with served(store) as port:
-            output, errors = found(f"--port={port}", "--numbers")
-            self.assertEqual(output, "")
-            self.assertIn("bugs 1 to 1,000 are read, and no later ones", errors)
-            for words in (["--first=1200", "--last=1300"], ["--last=1202"]):
-                self.assertEqual(
-                    found(f"--port={port}", "--numbers", *words)[0], "1200\n1201\n1202\n")
-
-    def test_older(self):
-        """Desks of older schemas are read, and stay as they are."""
-        for name in ("first", "second"):
-            store = shutil.copy(SCHEMAS / f"{name}.db", self.folder)
-            bytes_before = pathlib.Path(store).read_bytes()
-            copy = shutil.copy(store, f"{store}.copy")
-            text = answers(copy, [f"@show {number}" for number in range(1, 100)])
-            numbers = re.findall("^Bug ([0-9]+)$", text, re.MULTILINE)
-            told = json.loads(found(f"--store={store}", "--json", "--archived=both")[0])
-            self.assertEqual([str(bug["number"]) for bug in told], numbers)
-            self.assertEqual(
-                [" ".join(bug["affects"]) or "-" for bug in told],
-                re.findall("^Affects: (.*)$", text, re.MULTILINE))
-            self.assertEqual(
-                [bug["title"] for bug in told], re.findall("^Title: (.*)$", text, re.MULTILINE))
-            self.assertEqual(found(f"--store={store}", "--affects=foo", "--numbers")[1], "")
-            found(f"--store={store}", "--at=foo/1")
-            self.assertEqual(pathlib.Path(store).read_bytes(), bytes_before)
-
-    def test_faults(self):
-        """Each fault has a line that says what to do, status 3 and no output."""
-        store = make_desk(self.folder, DESK)
-        later = shutil.copy(store, f"{self.folder}/later.db")
-        with contextlib.closing(sqlite3.connect(later)) as connection, connection:
-            connection.execute("UPDATE meta SET schema = 9")
-        other = f"{self.folder}/other.db"
-        with contextlib.closing(sqlite3.connect(other)) as connection, connection:
-            connection.execute("CREATE TABLE t (x)")
-        for words, told in (
-            ([f"--store={later}"], "schema 9"), ([f"--store={other}"], "is no desk"),
-            ([f"--store={written(self.folder, 'empty', '')}"], "is no desk"),
-            ([f"--store={written(self.folder, 'text', 'x' * 9000)}"], "is no desk"),
-            ([f"--store={self.folder}/none"], "is not there"),
-            ([f"--store={self.folder}"], "no regular file"),
-            ([f"--port={desks.free_port()}"], "Connection refused"),
-            ([f"--store={store}", "--suite=a=/none"], "/none: "),
-        ):
-            with self.subTest(words):
-                output, errors = found(*words, status=3)
-                self.assertEqual((output, errors.count("\n")), ("", 1))
-                self.assertIn(told, errors)
-        script = '"$@" >/dev/full; [ $? -eq 3 ]'
-        _, errors = run(["sh", "-c", script, "sh", *command("find"), f"--store={store}"])
-        self.assertIn("standard output can't be written", errors)
-
-    def test_nothing_left(self):
-        """Nothing is left in the desk's folder or among temporary files."""
-        store = make_desk(self.folder, DESK)
-        temporary = pathlib.Path(self.folder, "tmp")
-        temporary.mkdir()
-        before = sorted(os.listdir(self.folder))
-        words = [*command("find"), f"--program={desks.program()}", f"--store={store}"]
-        for more, status in (([], 0), (["--at=foo/1"], 0), (["--at=foo/1_"], 1)):
-            ran = subprocess.run(
-                [*words, *more], env=os.environ | {"TMPDIR": str(temporary)}, capture_output=True,
-                check=False)
-            self.assertEqual(ran.returncode, status)
-        self.assertEqual(sorted(os.listdir(self.folder)), before)
-        self.assertEqual(os.listdir(temporary), [])
-
-    def test_bad_pages(self):
-        """A page that no desk writes is told, and read as nothing."""
-        page = "Bug 1\n" + "".join(f"{label}: x\n" for label in page_facts.LABELS)
-        for text in (page, page.replace("Owner", "Owned"), "Bug 1\n", page + "x\n"):
-            with unittest.mock.patch.object(
-                page_facts.ServedDesk, "pages", lambda _, numbers, text=text: iter([text.rstrip()]),
-            ), served(make_desk(self.folder, "", f"{abs(hash(text))}.db")) as port:
-                output, errors = found(f"--port={port}", "--last=1", status=3)
-            self.assertEqual(output, "")
-            self.assertIn("as no desk does", errors)
 
 
 if __name__ == "__main__":

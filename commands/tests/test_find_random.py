@@ -4,7 +4,6 @@ The plain reading goes by the text of the program's pages and lists alone.
 The same desk is asked in its file, served by its pages, and served by a copy of its file.
 """
 
-import contextlib
 import csv
 import io
 import itertools
@@ -14,17 +13,15 @@ import pathlib
 import random
 import re
 import subprocess
-import sys
 import tempfile
 import unittest
-import unittest.mock
 
 import desks
-from boxhumilwa import find
+from finds import answers, found
 
 # How many random desks there are, and how many pairs of options over each.
 DESKS = int(os.environ.get("DESKS", "2"))
-PAIRS = 8
+PAIRS = 6
 BUGS, LINES = 40, 260
 SEVERITIES = ("critical", "grave", "serious", "important", "normal", "minor", "wishlist")
 TAGS = ("a11y", "d-i", "help", "moreinfo", "patch", "security", "wontfix")
@@ -34,7 +31,8 @@ VERSIONS = ("1", "2", "3", "4", "2+s1", "9~rc1")
 PEOPLE = {
     "ann": ["ann"],
     "Ann Other <ann@foo.example>": ["ann other <ann@foo.example>", "ann other", "ann@foo.example"],
-    "ANN@foo.example (Ann Öther)": ["ann@foo.example (ann öther)", "ann öther", "ann@foo.example"],
+    "ANN@foo.example (Ann Öther)": [
+        "ann@foo.example (ann öther)", "ann öther", "ann@foo.example"],
     '"Bo, B." <bo@bar.example>': ['"bo, b." <bo@bar.example>', '"bo, b."', "bo, b.",
                                   "bo@bar.example"],
     "bo@bar.example": ["bo@bar.example"],
@@ -118,14 +116,6 @@ def made_desk(place, chance, name):
 # The plain reading.
 
 
-def answers(store, script):
-    """The text that the program answers to a script."""
-    ran = subprocess.run(
-        [desks.program(), f"--store={store}", "run"], input="\n".join(script).encode(),
-        stdout=subprocess.PIPE, check=False)
-    return ran.stdout.decode()
-
-
 def plain_pages(store, last):
     """The fields of all pages, by number."""
     pages = {}
@@ -142,7 +132,8 @@ def plain_pages(store, last):
 def plain_list(store, package, version):
     """The numbers of a list."""
     text = answers(store, [f"@list {package} {version}"])
-    return {int(number) for number in re.findall("^ *([0-9]+)  [a-z]+ +(?:open|done)  ", text, re.M)}
+    rows = re.findall("^ *([0-9]+)  [a-z]+ +(?:open|done)  ", text, re.MULTILINE)
+    return {int(number) for number in rows}
 
 
 def words_of(value):
@@ -277,35 +268,6 @@ def plain_value(column, text):
     if column == "archived":
         return text == "yes"
     return None if text == "-" and column in ("owner", "forwarded") else text
-
-
-# Runs.
-
-
-@contextlib.contextmanager
-def output_kept():
-    """Keeps what is written to standard output meanwhile, by its number."""
-    sys.stdout.flush()
-    kept = os.dup(1)
-    with tempfile.TemporaryFile() as file:
-        os.dup2(file.fileno(), 1)
-        try:
-            yield file
-        finally:
-            os.dup2(kept, 1)
-            os.close(kept)
-
-
-def found(*words, status=0):
-    """What `find` writes, run in this process, and what it tells."""
-    errors = io.StringIO()
-    with output_kept() as output, unittest.mock.patch.object(sys, "stderr", errors):
-        ended = find.main([f"--program={desks.program()}", *map(str, words)])
-        output.seek(0)
-        text = output.read().decode()
-    if ended != status:
-        raise AssertionError(f"{words}: status {ended}: {errors.getvalue()}")
-    return text, errors.getvalue()
 
 
 class RandomDesks(unittest.TestCase):
