@@ -74,6 +74,29 @@ class OnDesk(unittest.TestCase):
         self.assertLessEqual(max(map(len, told.split("\n"))), 56)
         self.assertIn("bar      breaks the build of\n" + " " * 34 + "foo\n", told)
 
+    def test_manual(self):
+        """The example of the manual, by a shell, on its release day."""
+        manual = (desks.ROOT / "docs/MANUAL.md").read_text(encoding="utf-8")
+        chapter = manual.partition("\n## Finding bugs\n")[2]
+        block = re.search("(?m)^(?:    .*\n|\n)+", chapter[chapter.index("    $ "):])[0]
+        lines = re.sub("(?m)^    ", "", block).strip("\n").split("\n")
+        make_desk(self.folder, desks.RELEASE_DAY, "manual.db")
+        script = "".join(
+            f"{line.removeprefix('$ ')}\n" for before, line in zip(["", *lines], lines)
+            if line.startswith("$ ") or before.endswith("|"))
+        for name in ("find", "send"):
+            run_words = " ".join([*command(name), f"--program={desks.program()}"])
+            script = script.replace(f"commands/{name}", run_words)
+        script = script.replace("./bts", desks.program()).replace(
+            "--store=desk.db", f"--store={self.folder}/manual.db")
+        told, errors = run(["sh", "-e"], script)
+        wanted = [line for before, line in zip(["", *lines], lines)
+                  if not line.startswith("$ ") and not before.endswith("|")]
+        first = "".join(
+            f"> {line}\nOK {line.split()[1]}\n"
+            for line in ("tags 2 patch", "owner 2 !", "block 1 by 2", "block 3 by 2"))
+        self.assertEqual((told, errors), (first + "\n".join([*wanted, ""]), ""))
+
     def test_forms(self):
         """A bug in JSON and in CSV, whose lines end as RFC 4180 has it."""
         text = found(self.store, "--json", "--blocked", "--merged=no")[0]

@@ -291,7 +291,8 @@ class RandomDesks(unittest.TestCase):
             wanted = "".join(f"{number}\n" for number in numbers)
             for place in places:
                 with self.subTest(words=words, place=place):
-                    self.assertEqual(found(*place, "--numbers", *words)[0], wanted)
+                    told = found(*place, "--numbers", *words)[0]
+                    self.assertTrue(told == wanted, f"{told.split()} and not {numbers}")
 
     def compare_fields(self, place, pages):
         """Compares all that JSON and CSV say of all bugs with all pages."""
