@@ -8,6 +8,9 @@ from collections.abc import Iterator
 from typing import NamedTuple
 
 SEVERITIES = ("critical", "grave", "serious", "important", "normal", "minor", "wishlist")
+TAGS = (
+    "a11y", "confirmed", "d-i", "fixed-upstream", "ftbfs", "help", "ipv6", "l10n", "lfs",
+    "moreinfo", "newcomer", "patch", "pending", "security", "unreproducible", "upstream", "wontfix")
 ROW = re.compile(r" *([0-9]+)  ([a-z]+) +(open|done)  (.*)", re.DOTALL)
 PAGE_LINES = 16
 # A source and its version.

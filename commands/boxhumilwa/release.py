@@ -38,12 +38,11 @@ from .command import (
     test_desk,
 )
 from .faults import Fault
-from .indexes import Entry, candidates
 from .report import CRITICAL, Suite, at_least, compare, gather, listed_numbers
 from .snapshot import private_copy
+from .suites import read_suite, refusals
 from .terminal import Progress, shown
 from .unseen import unseen_of
-from .versions import highest_versions
 
 NAME = "release"
 NO_BRANCHES = (
@@ -58,7 +57,7 @@ def release_parser() -> Parser:
     """What the command line may be."""
     parser = make_parser(
         NAME, __doc__,
-        "release (--store=FILE | --port=N | --socket=PATH) [options] SUITE=PATH ..")
+        "release [--store=FILE] [--port=N | --socket=PATH] [options] SUITE=PATH ..")
     add_desk_to_read(parser)
     parser.add_argument(
         "--severity", choices=SEVERITIES, default=CRITICAL, metavar="S",
@@ -103,32 +102,6 @@ def read_options(words: list[str]) -> argparse.Namespace:
 # The report.
 
 
-def read_suite(options: argparse.Namespace, name: str, path: str) -> Suite:
-    """A suite, of which each source has one version."""
-    refused: list[tuple[Entry, str]] = []
-    found = candidates(
-        path, set(options.package), lambda entry, reason: refused.append((entry, reason)))
-    doubled = {source: versions for source, versions in found.items() if len(versions) > 1}
-    highest = highest_versions(
-        options.program, doubled, lambda source, version, reason: refused.append(
-            (Entry(source, version, found[source][version]), reason)))
-    versions = {
-        source: highest[source] if source in doubled else next(iter(choices))
-        for source, choices in found.items() if source not in doubled or source in highest
-    }
-    lines = {source: found[source][version] for source, version in versions.items()}
-    return Suite(name, path, versions, lines, refused)
-
-
-def tell_refusals(suites: list[Suite]) -> None:
-    """Tells what is left out of suites; one of which nothing is left can't be reported."""
-    for suite in suites:
-        for told in suite.told_refusals():
-            tell(NAME, told)
-        if suite.refused and not suite.versions:
-            raise Fault(f"{suite.path}: the desk takes no package of it")
-
-
 def tell_missing(packages: list[str], suites: list[Suite]) -> None:
     """Tells of packages that were named and are in no suite."""
     for package in packages:
@@ -145,7 +118,7 @@ def look_for_unseen(options: argparse.Namespace, file: str | None, suites: list[
         return
     # SQLite leaves a file beside a desk that it reads, so it reads a copy.
     with private_copy(file) as path:
-        found = unseen_of(path, [suite.versions for suite in suites])
+        found = unseen_of(path, [suite.versions.items() for suite in suites])
     for suite, unseen in zip(suites, found):
         suite.unseen = unseen
 
@@ -160,11 +133,13 @@ def report(options: argparse.Namespace) -> int:
 
 def report_of(options: argparse.Namespace, desk: Desk, file: str | None) -> int:
     """Makes the report of a desk, whose tables are in a file, and answers the exit status."""
-    suites = [read_suite(options, name, path) for name, path in options.suites]
+    suites = [
+        read_suite(options.program, options.package, name, path) for name, path in options.suites]
     progress = Progress(NAME)
     gather(desk, suites, at_least(options.severity), progress)
     look_for_unseen(options, file, suites)
-    tell_refusals(suites)
+    for told in refusals(suites):
+        tell(NAME, told)
     tell_missing(options.package, suites)
     named = {suite.name: suite for suite in suites}
     comparison = compare(*(named[name] for name in options.compare)) if options.compare else None
@@ -180,7 +155,7 @@ def report_of(options: argparse.Namespace, desk: Desk, file: str | None) -> int:
 def has_failed(options: argparse.Namespace, suite: Suite) -> bool:
     """Whether the first suite has a bug that ends the report with another status."""
     counts = options.fail_on and suite.count(at_least(options.fail_on))
-    is_missed = options.fail_on_unseen and suite.unseen and suite.unseen.has_bugs()
+    is_missed = options.fail_on_unseen and suite.unseen and suite.unseen.numbers()
     return bool(counts or is_missed)
 
 

@@ -48,6 +48,8 @@ def capitalized(words: str) -> str:
 
 def columns(text: str) -> int:
     """How many columns of a terminal a text takes."""
+    if text.isascii():
+        return len(text)
     return sum(letter_columns(letter) for letter in text)
 
 
@@ -96,13 +98,22 @@ class Progress:
         self.count, self.next = 0, time.monotonic() + PATIENCE
         self.is_begun = False
 
-    def __call__(self, total: int, what: str) -> None:
-        """One more is done."""
+    def __call__(self, total: int | None, what: str) -> None:
+        """One more is done, of so many where that is known."""
         self.count += 1
         is_last = self.count == total
         if self.is_shown and (time.monotonic() >= self.next or (is_last and self.is_begun)):
             self.next, self.is_begun = time.monotonic() + PAUSE, not is_last
             end = "\n" if is_last else ""
-            sys.stderr.write(f"\r{self.name}: {self.count:,} of {total:,} {what}{end}")
+            of = "" if total is None else f" of {total:,}"
+            sys.stderr.write(f"\r{self.name}: {self.count:,}{of} {what}{end}")
             sys.stderr.flush()
-        self.count %= total
+        if is_last:
+            self.count = 0
+
+    def end(self) -> None:
+        """Ends the line of work that came to no known end."""
+        if self.is_begun:
+            self.is_begun = False
+            sys.stderr.write("\n")
+            sys.stderr.flush()

@@ -12,7 +12,7 @@ from collections.abc import Iterable, Iterator
 from typing import NamedTuple
 
 from .answers import SEVERITIES, Question
-from .nodes import opened
+from .nodes import opened, source_of
 
 IN_BRANCH = "SELECT 1 FROM nodes WHERE source = ? AND version = ?"
 # The bugs that a list of a package would have but for marks at the version itself: not archived,
@@ -26,7 +26,7 @@ WHERE archived = 0
     OR EXISTS (SELECT 1 FROM marks WHERE marks.set_key = sets.set_key AND kind = 1))
   AND EXISTS (SELECT 1 FROM marks WHERE marks.set_key = sets.set_key AND kind = 0)
   AND NOT EXISTS (SELECT 1 FROM marks WHERE marks.set_key = sets.set_key
-    AND source = :package AND version = :version)
+    AND source = :source AND version = :version)
 ORDER BY number"""
 UNPLACED = """SELECT number, severity, title, package, set_key FROM bugs JOIN sets USING (set_key)
 WHERE archived = 0 AND closed = 0
@@ -72,20 +72,32 @@ class Unseen:
         counted = [it for it in self.versions if it.numbers]
         return sorted(counted, key=lambda it: (-len(it.numbers), it.package))
 
-    def has_bugs(self) -> bool:
-        """Whether some bug is not seen."""
-        return bool(self.bugs or self.counted())
+    def numbers(self) -> set[int]:
+        """The numbers of all bugs that are not seen."""
+        return {
+            *(number for version in self.versions for number in version.numbers),
+            *(bug.number for bugs in self.bugs.values() for bug in bugs)}
 
 
 def uncounted(
     connection: sqlite3.Connection, questions: Iterable[Question],
 ) -> Iterator[Uncounted]:
-    """Those of these packages and versions that no branch has, with the bugs not counted there."""
+    """Those of these packages and versions that no branch has, with the bugs not counted there.
+
+    A version may have its source before it, which is the package else.
+    """
     for package, version in questions:
-        if not connection.execute(IN_BRANCH, (package, version)).fetchone():
-            words = {"package": package, "version": version}
+        node = node_of(package, version)
+        source, _, bare = node.partition("/")
+        if not connection.execute(IN_BRANCH, (source, bare)).fetchone():
+            words = {"package": package, "source": source, "version": bare}
             rows = connection.execute(NOT_COUNTED, words).fetchall()
             yield Uncounted(package, version, tuple(number for (number,) in rows))
+
+
+def node_of(package: str, version: str) -> str:
+    """A version with its source, which is the package where none stands before it."""
+    return version if source_of(version) != version else f"{package}/{version}"
 
 
 def all_unplaced(connection: sqlite3.Connection) -> Iterator[Unplaced]:
@@ -98,22 +110,31 @@ def all_unplaced(connection: sqlite3.Connection) -> Iterator[Unplaced]:
 
 
 def unplaced_in(
-    unplaced: Iterable[Unplaced], versions: dict[str, str],
+    unplaced: Iterable[Unplaced], questions: Iterable[Question],
 ) -> dict[str, list[Unplaced]]:
-    """Those of these bugs that no list of a suite has, by package."""
+    """Those of these bugs that one of these lists has not, by package."""
+    asked: dict[str, list[str]] = {}
+    for package, version in questions:
+        asked.setdefault(package, []).append(node_of(package, version))
     missed: dict[str, list[Unplaced]] = {}
     pairs = ((bug, package) for bug in unplaced for package in bug.packages)
     for bug, package in pairs:
-        if package in versions and f"{package}/{versions[package]}" not in bug.found:
+        if set(asked.get(package, ())) - set(bug.found):
             missed.setdefault(package, []).append(bug)
     return missed
 
 
-def unseen_of(path: str, suites: Iterable[dict[str, str]]) -> list[Unseen]:
-    """What can't be seen of suites, each {package: version}, in the file of a desk."""
+def unseen_of(path: str, lists: Iterable[Iterable[Question]]) -> list[Unseen]:
+    """What can't be seen of lists of packages at versions, in the file of a desk."""
     with opened(path) as connection:
         unplaced = list(all_unplaced(connection))
+        ordered = [sorted(questions) for questions in lists]
         return [
-            Unseen(list(uncounted(connection, sorted(versions.items()))),
-                   unplaced_in(unplaced, versions))
-            for versions in suites]
+            Unseen(list(uncounted(connection, questions)), unplaced_in(unplaced, questions))
+            for questions in ordered]
+
+
+def unplaced_numbers(path: str) -> set[int]:
+    """The numbers of the open bugs of a desk's file that are found only in no branch."""
+    with opened(path) as connection:
+        return {bug.number for bug in all_unplaced(connection)}

@@ -109,6 +109,7 @@ class Answers(unittest.TestCase):
                 ["graph", store, program(), "--json", f"s={suite}", "1"],
                 ["send", store, program(), "--json", "--show", "1"], ["branches", "--json", log],
                 ["count", store, program(), "--json", "foo", "2.0-1"],
+                ["find", store, program(), "--json"],
             ):
                 name, *rest = words
                 self.assertTrue(json.loads(run([*command(name), *rest])[0]), words)
@@ -134,7 +135,8 @@ class Answers(unittest.TestCase):
         self.assertTrue(told.replace("\u00a0", " ").isprintable())
         for name, words in (
             ("branches", [f"/none{STEERING}"]), ("release", ["--store=x", f"s=/n{STEERING}"]),
-            ("release", ["--store=x", f"{STEERING}"]),
+            ("release", ["--store=x", f"{STEERING}"]), ("find", [f"--store=/none{STEERING}"]),
+            ("find", ["--store=x", f"--package={STEERING}"]),
         ):
             ran = subprocess.run([*command(name), *words], capture_output=True, check=False)
             self.assertTrue(ran.stderr.decode().replace("\n", "").isprintable(), words)
@@ -162,6 +164,7 @@ class Package(unittest.TestCase):
                 ("graph", store, program(), f"s={suite}", "1"),
                 ("send", store, program(), "--show", "1"), ("branches", log),
                 ("count", store, program(), "foo", "2.0-1"),
+                ("find", store, program(), "--at=foo/2.0-1", f"--suite=s={suite}"),
             ):
                 python, *rest = command(name)
                 self.assertEqual(run([python, "-W", "error", *rest, *words])[1], "")

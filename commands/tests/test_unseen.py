@@ -104,25 +104,25 @@ def packages_of(page):
     return [page["Package"], *page["Affects"].replace(",", " ").split()]
 
 
-def is_not_counted(page, package, version):
+def is_not_counted(page, package, node):
     """Whether a bug is not listed at a version in no branch since it is found elsewhere."""
-    node, found, fixed = f"{package}/{version}", page["Found"].split(), page["Fixed"].split()
+    found, fixed = page["Found"].split(), page["Fixed"].split()
     return (
         page["Archived"] == "no" and package in packages_of(page)
         and (page["State"] == "open" or fixed != ["-"])
         and found != ["-"] and node not in found and node not in fixed)
 
 
-def is_unplaced(page, package, version, nodes):
+def is_unplaced(page, package, node, nodes):
     """Whether an open bug is found only at versions in no branch, of which this is none."""
     found = page["Found"].split()
     return (
         page["Archived"] == "no" and page["State"] == "open" and package in packages_of(page)
-        and found != ["-"] and not set(found) & nodes and f"{package}/{version}" not in found)
+        and found != ["-"] and not set(found) & nodes and node not in found)
 
 
 class Unseen(unittest.TestCase):
-    """Reports and pictures over desks that have bugs at versions in no branch."""
+    """Desks that have bugs at versions in no branch."""
 
     def setUp(self):
         place = folder()
@@ -137,6 +137,10 @@ class Unseen(unittest.TestCase):
     def graph(self, *words, status=0):
         """A run of `graph` with the program."""
         return run([*desks.command("graph"), f"--program={desks.program()}", *words], "", status)
+
+
+class Reports(Unseen):
+    """What `release` says of them."""
 
     def test_text(self):
         """A report says what it doesn't count above its figures, and which bugs no list has."""
@@ -213,6 +217,10 @@ class Unseen(unittest.TestCase):
             self.assertIn("the server is asked instead", release(*gone)[1])
             self.assertIn("needs its branches", release(*gone, "--fail-on-unseen", status=3)[1])
 
+
+class Pictures(Unseen):
+    """What `graph` says of them."""
+
     def test_picture(self):
         """A picture says that no version of a branch lists a bug, and what a suite doesn't."""
         store, suite = self.day()
@@ -242,6 +250,10 @@ class Unseen(unittest.TestCase):
             self.assertIn("instead", self.graph(*gone, f"--branches={same}")[1])
             self.assertIn("--branches", self.graph(f"--port={port}", "4", status=2)[1])
 
+
+class RandomDesks(Unseen):
+    """What `release` and `find` say of them, beside a plain reading of pages."""
+
     def test_random(self):
         """Reports of random desks have what a plain reading of all pages has."""
         for seed in range(DESKS):
@@ -261,12 +273,40 @@ class Unseen(unittest.TestCase):
         self.assertEqual(unseen["versions"], [
             {"package": package, "version": version, "numbers": [
                 number for number, page in pages.items()
-                if is_not_counted(page, package, version)]}
+                if is_not_counted(page, package, f"{package}/{version}")]}
             for package, version in versions.items() if f"{package}/{version}" not in nodes])
         missed = {
             package: [number for number, page in pages.items()
-                      if is_unplaced(page, package, version, nodes)]
+                      if is_unplaced(page, package, f"{package}/{version}", nodes)]
             for package, version in versions.items()}
         self.assertEqual(
             {package: [bug["number"] for bug in bugs] for package, bugs in unseen["bugs"].items()},
             {package: numbers for package, numbers in missed.items() if numbers})
+        told = {number for numbers in missed.values() for number in numbers}
+        told |= {number for it in unseen["versions"] for number in it["numbers"]}
+        self.assertEqual(self.found(store, f"--suite=new={suite}"), sorted(told))
+        self.look_by_find(store, pages, nodes, chance)
+
+    def look_by_find(self, store, pages, nodes, chance):
+        """Compares `find --unseen` with the pages: of all lists, and of one."""
+        self.assertEqual(self.found(store), [
+            number for number, page in pages.items()
+            if is_unplaced(page, page["Package"], "none", nodes)])
+        source, package = chance.choice(PACKAGES), chance.choice(PACKAGES)
+        version = chance.choice(VERSIONS)
+        node = f"{source}/{version}"
+        for words, asked in (
+            ((f"--at={node}",), source), ((f"--at={node}", f"--package={package}"), package),
+            ((f"--at={version}", f"--package={source}"), source),
+        ):
+            self.assertEqual(self.found(store, *words), [
+                number for number, page in pages.items()
+                if (len(words) == 1 or page["Package"] == asked)
+                and (is_unplaced(page, asked, node, nodes)
+                     or node not in nodes and is_not_counted(page, asked, node))])
+
+    def found(self, store, *words):
+        """The numbers that `find --unseen` writes."""
+        tool = [*desks.command("find"), f"--program={desks.program()}", f"--store={store}"]
+        output, _ = run([*tool, "--unseen", "--numbers", *words])
+        return [int(number) for number in output.split()]
