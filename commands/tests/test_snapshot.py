@@ -1,5 +1,6 @@
 """Tests of `snapshot`: what a copy is."""
 
+import hashlib
 import json
 import os
 import pathlib
@@ -179,7 +180,8 @@ class Manual(Case):
 
     def test_backup(self):
         """Its commands give what it says, beside a server, and the desk is restored."""
-        os.symlink(desks.program(), os.path.join(self.folder, "bts"))
+        self.folder = os.path.join(self.folder, "manual")
+        os.mkdir(self.folder)
         os.symlink(COMMANDS, os.path.join(self.folder, "commands"))
         store = make_desk(self.folder, desks.RELEASE_DAY)
         commands = self.commands_of("Backup")
