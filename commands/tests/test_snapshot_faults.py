@@ -135,6 +135,23 @@ class Faults(Case):
                     snapshot.first_look(str(store))
             written(self.folder, "desk.db-wal", "")
 
+    def test_look(self):
+        """A look at other files, or at others' times or heads, is another one."""
+        store = str(make_desk(self.folder, DAY))
+        looks = [snapshot.look(store)]
+        for change_files in (
+            lambda: written(self.folder, "desk.db-wal", b"x" * 31 + b"y" * 9),
+            lambda: written(self.folder, "desk.db-wal", b"x" * 32 + b"y" * 9),
+            lambda: os.utime(store, (5, 5)), lambda: os.truncate(store, 8_192),
+            lambda: os.unlink(f"{store}-wal"),
+        ):
+            change_files()
+            looks.append(snapshot.look(store))
+        self.assertEqual(len(set(looks)), len(looks))
+        self.assertEqual([len(it.head) for it in looks], [32] * 5 + [0])
+        self.assertEqual(looks[1].head[-1:], b"y")
+        self.assertEqual(looks[2].head[-1:], b"x")
+
     def test_exchanged(self):
         """A file that is exchanged for another between the two is copied again."""
         store = make_desk(self.folder, DAY)

@@ -20,7 +20,7 @@ from boxhumilwa import snapshot
 from desks import command, run
 from loads import History, Server, complaint, head, memory, pass_checkpoint
 
-COPIES = int(os.environ.get("COPIES", "6"))
+COPIES = int(os.environ.get("COPIES", "4"))
 # A desk is exchanged for a new one after so many copies, since reading a big one takes long.
 COPIES_OF_DESK = 10
 FURTHER = 40

@@ -67,7 +67,7 @@ class Room(Case):
         self.addCleanup(subprocess.run, ["umount", self.place], check=True)
         both = sum(-(-size // 4096) for size in self.sizes) * 4
         done = []
-        for size in (64, self.sizes[0] // 1024 + 8, both - 4, *range(both, both + 72, 8),
+        for size in (64, self.sizes[0] // 1024 + 8, both - 4, *range(both, both + 72, 24),
                      2 * both + 400):
             subprocess.run(["mount", "-o", f"remount,size={size}k", self.place], check=True)
             done.append(self.copy_in([]))
