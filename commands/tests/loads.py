@@ -143,8 +143,8 @@ def rows(path):
 
 
 def told_by_program(path, number):
-    """What the program says of two bugs of a copy, the last one and the next."""
-    script = f"@show {number}\n@show {number + 1}\n"
+    """What the program says of two bugs of a copy, the last one, if there is one, and the next."""
+    script = f"@show {number}\n" * bool(number) + f"@show {number + 1}\n"
     ran = subprocess.run(
         [desks.program(), f"--store={path}", "run"], input=script, capture_output=True, text=True,
         timeout=desks.TIME_LIMIT, check=False)
@@ -169,7 +169,7 @@ def complaint(path, least, most):
     if outcomes != grave:
         return f"{outcomes} outcomes of {grave} messages"
     told = told_by_program(path, len(bugs))
-    page = f"Bug {len(bugs)}\nTitle: {title(len(bugs))}\n" if bugs else "NO no such bug 0\n"
+    page = f"Bug {len(bugs)}\nTitle: {title(len(bugs))}\n" if bugs else ""
     if not told.startswith(page) or f"NO no such bug {len(bugs) + 1}\n" not in told:
         return f"the program says {told!r}"
     return None
