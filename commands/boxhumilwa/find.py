@@ -19,7 +19,6 @@ import contextlib
 import os
 import shutil
 import sqlite3
-import sys
 from collections.abc import Iterable, Iterator
 
 from .bug_facts import Condition, Row, add_tags, opened_file, select, told_faults
@@ -115,8 +114,8 @@ def asked_file(
     """A desk in a file, of which a copy is read, and what its bugs have to meet."""
     with private_copy(options.store) as copy:
         # The program is asked before SQLite opens the copy, which only one of them can.
-        wanted = all_conditions(FileDesk(options.program, str(copy)), options)
-        with opened_file(options.store, str(copy)) as connection:
+        wanted = all_conditions(FileDesk(options.program, copy), options)
+        with opened_file(options.store, copy) as connection:
             yield connection, wanted
 
 
@@ -163,7 +162,7 @@ def answer_lines(
         """These columns of the bugs."""
         return select(connection, columns, wanted, ORDERS[options.sort])
 
-    is_terminal = sys.stdout.isatty()
+    is_terminal = os.isatty(1)
     if options.numbers:
         return number_lines(ask(["number"]))
     if options.json:

@@ -1,6 +1,7 @@
 """The command line of `find`: its options, of which each is good by itself and with the others."""
 
 import argparse
+import fnmatch
 import re
 
 from .answers import SEVERITIES, TAGS
@@ -30,6 +31,15 @@ def version_word(word: str) -> str:
     """A version, perhaps with its source."""
     if not WORD.fullmatch(word):
         raise argparse.ArgumentTypeError("a version is 1 to 500 visible ASCII characters")
+    return word
+
+
+def title_pattern(word: str) -> str:
+    """A pattern of a shell."""
+    try:
+        fnmatch.fnmatchcase("", word)
+    except re.error as error:
+        raise argparse.ArgumentTypeError(f"{word!r} is no pattern: {error}") from error
     return word
 
 
@@ -80,7 +90,7 @@ def add_texts(parser: Parser) -> None:
         "--maintainers", metavar="FILE",
         help="lines of a package and its maintainer, for --maintainer")
     tests.add_argument(
-        "--title", action="append", default=[], metavar="PATTERN",
+        "--title", action="append", default=[], type=title_pattern, metavar="PATTERN",
         help="bugs whose whole title is like this, with * ? and [..] as in a shell")
 
 

@@ -12,7 +12,7 @@ import desks
 from desks import command, folder, make_desk, run, written
 from finds import found, on_terminal, output_kept
 
-from boxhumilwa import find
+from boxhumilwa import find, find_words
 from boxhumilwa.answers import TAGS
 
 DESK = """@from Ann Other <ann@foo.example>
@@ -208,6 +208,25 @@ class OnDesk(unittest.TestCase):
         manual = (desks.ROOT / "docs/MANUAL.md").read_text(encoding="utf-8")
         listed = re.search(r"^The tags are (.*?)\.$", manual, re.MULTILINE | re.DOTALL)[1]
         self.assertEqual(sorted(re.findall("`([a-z0-9-]+)`", listed)), sorted(TAGS))
+
+    def test_completion(self):
+        """Completion has the words of each option that has fixed ones."""
+        packaging = desks.ROOT / "packaging"
+        told = (packaging / "completion-tools").read_text(encoding="utf-8")
+        for sign, value in (("@TOOL@", "find"), ("@OPTIONS@", "--sort=")):
+            told = told.replace(sign, value)
+        script = written(self.folder, "boxhumilwa-find", told)
+        written(self.folder, "boxhumilwa", (packaging / "completion").read_bytes())
+        parser = find_words.find_parser(None)
+        fixed = {it.option_strings[0]: it.choices for it in parser._actions if it.choices}
+        lines = [f". {script}", "compopt() { :; }"] + [
+            f'COMP_WORDS=(boxhumilwa-find {name} = ""); COMP_CWORD=3; '
+            'COMPREPLY=(); _boxhumilwa_tool boxhumilwa-find; echo "${COMPREPLY[*]}"'
+            for name in fixed]
+        completed, _ = run(["bash"], "\n".join(lines))
+        words = [set(line.split()) for line in completed.splitlines()]
+        self.assertEqual(words, [set(choices) for choices in fixed.values()])
+        self.assertEqual(len(fixed), 9)
 
     def test_bad_words(self):
         """Bad words have status 2 and a line."""

@@ -98,6 +98,9 @@ def random_desk(chance):
         if number % 4 == 0:
             yield "@from ann"
         yield random_line(chance)
+    # A bug that is closed without a version is done everywhere, and so may be archived.
+    for number in chance.sample(range(1, BUGS + 1), 4):
+        yield from ("@from ann", f"reopen {number}", f"close {number}", f"archive {number}")
 
 
 def made_desk(place, chance, name):
