@@ -46,6 +46,31 @@ number  severity   state  waiting  package  title
      5  serious    open   0        bar      breaks the build of foo
 """
 
+# What each option asks of the desk, and what pairs ask, read from the script by hand.
+QUESTIONS = (
+    ("--package=foo", [1, 2, 3]), ("--package=foo --package=bar", [1, 2, 3, 4, 5]),
+    ("--package=zed", []), ("--affects=foo", [4, 5]), ("--affects=bar --affects=foo", [4, 5]),
+    ("--affects=bar", []), ("--severity=grave", [1]), ("--severity=serious", [1, 4, 5]),
+    ("--severity=important --severity=grave", [1, 2, 4, 5]),
+    ("--severity=wishlist", [1, 2, 3, 4, 5]),
+    ("--tag=patch", [1, 2]), ("--tag=security", [2]), ("--tag=patch --tag=security", [1, 2]),
+    ("--tag=wontfix --tag=security", [2]), ("--tag=help", []), ("--not-tag=patch", [3, 4, 5]),
+    ("--not-tag=security", [1, 3, 4, 5]), ("--not-tag=security --not-tag=patch", [3, 4, 5]),
+    ("--tag=patch --not-tag=security", [1]), ("--state=open", [2, 3, 4, 5]), ("--state=done", [1]),
+    ("--state=open --state=done", [1, 2, 3, 4, 5]), ("--archived", [6]), ("--archived=yes", [6]),
+    ("--archived=no", [1, 2, 3, 4, 5]), ("--archived=both", [1, 2, 3, 4, 5, 6]),
+    ("--archived=no --archived=yes", [1, 2, 3, 4, 5, 6]), ("--forwarded", [4, 5]),
+    ("--forwarded=no", [1, 2, 3]), ("--merged", [4, 5]), ("--merged=no", [1, 2, 3]),
+    ("--merged=both", [1, 2, 3, 4, 5]), ("--blocked", [1, 4, 5]), ("--blocked=no", [2, 3]),
+    ("--title=crash*", [1]), ("--title=crash", []), ("--title=*e* --title=*x", [1, 2, 3, 4, 5]),
+    ("--title=*a*t*", [1, 2, 4, 5]), ("--title=Crash*", []), ("--title=[bl]* --owner=-", [4, 5]),
+    ("--blocked --tag=patch", [1]), ("--package=foo --owner=-", [1, 3]),
+    ("--submitter=bob --merged", [4, 5]), ("--submitter=bob --blocked=no", []),
+    ("--archived --severity=grave", [6]), ("--archived --package=foo", []),
+    ("--title=*e* --title=*x --title=c* --state=done", [1]),
+)
+
+
 class OnDesk(unittest.TestCase):
     """Answers over one desk."""
 
@@ -122,6 +147,12 @@ class OnDesk(unittest.TestCase):
             self.assertEqual(found(self.store, *form, "--package=none"), (wanted, ""))
         text, _ = found(self.store, "--csv", "--package=none")
         self.assertEqual(len(text.split("\r\n")), 2)
+
+    def test_each(self):
+        """Each option, one that is given several times, and several options."""
+        for words, wanted in QUESTIONS:
+            with self.subTest(words):
+                self.assertEqual(self.numbers(*words.split()), wanted)
 
     def test_people(self):
         """A person is found by the whole text, the name and the address, in any case."""
