@@ -5,6 +5,8 @@ that the log has a new head before anything in it is written over.
 Between two heads the log is only appended to.
 So if the file and the head of the log are the same before and after both were copied, the copies
 are the desk at one moment: what was being appended just then is cut off, as after a crash.
+The head alone tells it, since the log has all that is written to the file under that head; the
+file's time tells besides where a log has no head, or where something else writes to the file.
 
 Other commands ask such a copy, which the program and SQLite open:
 
@@ -27,15 +29,16 @@ from typing import IO, NamedTuple
 
 from .faults import Fault
 
-LOG = "-wal"
+LOG, JOURNAL = "-wal", "-journal"
 # How the log begins, with the salts that are new after each copying into the file.
 HEAD_BYTES = 32
 PIECE = 1 << 20
-TRIES = 50
+TRIES = 100
 # A kernel's clock of files may stand still for some milliseconds, so a change that follows another
 # one as fast is not seen by its time.
 QUIET_NANOSECONDS = 50_000_000
-LOOKS = 200
+LOOKS = 1_000
+LOOK_PAUSE, HEAD_PAUSE, HEAD_SECONDS = 0.01, 0.001, 0.2
 NO_ROOM = (errno.ENOSPC, errno.EDQUOT, errno.EFBIG)
 BLOCKED = {signal.SIGINT, signal.SIGTERM, signal.SIGHUP}
 # Is told how many bytes of how many were copied.
@@ -80,21 +83,38 @@ def look_at_log(path: str) -> tuple[int, bytes]:
 
 
 def look(path: str) -> Look:
-    """Looks at the files of a desk."""
+    """Looks at the files of a desk, beside which no program of another kind may be writing."""
+    if os.path.lexists(path + JOURNAL):
+        raise Fault(
+            f"{path}{JOURNAL}: another program than the desk's writes to the file, or was stopped: "
+            "let sqlite3 end that first")
     seen = os.stat(path)
     return Look(
         seen.st_mtime_ns, seen.st_ctime_ns, seen.st_size, seen.st_ino, *look_at_log(path))
 
 
-def look_at_rest(path: str) -> Look:
-    """Looks at the files of a desk until the file has not changed for a moment."""
+def is_certain(seen: Look, now: int) -> bool:
+    """Whether each later change shows: by a head, or by the time of a file at rest."""
+    return len(seen.head) == HEAD_BYTES or all(
+        abs(now - it) > QUIET_NANOSECONDS for it in (seen.changed, seen.touched))
+
+
+def first_look(path: str) -> Look:
+    """Looks at the files of a desk until each later change will show."""
     for _ in range(LOOKS):
         now = time.time_ns()
         seen = look(path)
-        if all(abs(now - it) > QUIET_NANOSECONDS for it in (seen.changed, seen.touched)):
+        if is_certain(seen, now):
             return seen
-        time.sleep(QUIET_NANOSECONDS / 1e9)
+        time.sleep(LOOK_PAUSE)
     raise too_fast(path)
+
+
+def wait_for_head(path: str, head: bytes) -> None:
+    """Waits a moment until the log has another head: the next one is farthest off then."""
+    end = time.monotonic() + HEAD_SECONDS
+    while look_at_log(path)[1] == head and time.monotonic() < end:
+        time.sleep(HEAD_PAUSE)
 
 
 def too_fast(path: str) -> Fault:
@@ -102,39 +122,55 @@ def too_fast(path: str) -> Fault:
     return Fault(f"{path}: it changed too fast to be copied: try again when less is sent to it")
 
 
-def write_piece(target: IO[bytes], piece: bytes) -> None:
-    """Writes to a copy."""
+def write_piece(handle: int, piece: bytes, target: str) -> None:
+    """Writes all of a piece to a copy."""
+    left = memoryview(piece)
     try:
-        target.write(piece)
+        while left:
+            left = left[os.write(handle, left):]
     except OSError as error:
-        raise cannot_write(target.name, error) from error
+        raise cannot_write(folder_of(target), error) from error
 
 
-def cannot_write(path: object, error: OSError) -> Fault:
-    """The fault of a copy that can't be written."""
+def folder_of(target: str) -> str:
+    """The folder that a private folder with a copy was made in, which a user knows."""
+    return os.path.dirname(os.path.dirname(target))
+
+
+def no_room(folder: str, reason: object) -> Fault:
+    """The fault of a copy that finds no room."""
+    return Fault(f"{folder}: there is no room for the copy: {reason}; make room and try again")
+
+
+def cannot_write(folder: str, error: OSError) -> Fault:
+    """The fault of a copy that can't be written into a folder."""
     reason = error.strerror or str(error)
     if error.errno in NO_ROOM:
-        return Fault(f"{path}: there is no room for the copy: {reason}; make room and try again")
-    return Fault(f"{path}: the copy can't be written: {reason}")
+        return no_room(folder, reason)
+    return Fault(f"{folder}: no copy can be made in this folder: {reason}")
 
 
 def copy_file(source: str, target: str, told: Told) -> None:
     """Copies a file, as long as it is when it is opened."""
-    with open_to_read(source) as reading, open_private(target) as writing:
+    with open_to_read(source) as reading, private_file(target) as writing:
         size = left = os.fstat(reading.fileno()).st_size
         while left and (piece := reading.read(min(left, PIECE))):
-            write_piece(writing, piece)
+            write_piece(writing, piece, target)
             left -= len(piece)
             told(size - left, size)
 
 
-def open_private(path: str) -> IO[bytes]:
-    """Opens a new file that no other user can read; one that is there is emptied."""
+@contextlib.contextmanager
+def private_file(path: str) -> Iterator[int]:
+    """A new file that no other user can read, open to be written; one that is there is emptied."""
     try:
         handle = os.open(path, os.O_WRONLY | os.O_CREAT | os.O_TRUNC | os.O_CLOEXEC, 0o600)
     except OSError as error:
-        raise cannot_write(path, error) from error
-    return open(handle, "wb", buffering=0)
+        raise cannot_write(folder_of(path), error) from error
+    try:
+        yield handle
+    finally:
+        os.close(handle)
 
 
 def copy_log(path: str, target: str, told: Told) -> None:
@@ -154,11 +190,13 @@ def copy_pair(store: str, target: str, told: Told = lambda *_: None) -> int:
     path = real_path(store)
     try:
         for attempt in range(1, TRIES + 1):
-            before = look_at_rest(path)
+            before = first_look(path)
             copy_file(path, target, told)
             copy_log(path, target, told)
-            if look(path) == before:
+            after = look(path)
+            if after == before:
                 return attempt
+            wait_for_head(path, after.head)
     except OSError as error:
         raise cannot_read(store, error) from error
     raise too_fast(path)
@@ -182,7 +220,7 @@ def cannot_read(store: str, error: OSError) -> Fault:
 def fault_of_copy(store: str, target: str, error: sqlite3.Error) -> Fault:
     """The fault of a copy that SQLite can't work on."""
     if "full" in str(error) or "I/O" in str(error):
-        return Fault(f"{target}: there is no room for the copy: {error}; make room and try again")
+        return no_room(folder_of(target), error)
     return Fault(f"{store}: the store's file is no desk: {error}")
 
 
@@ -198,7 +236,7 @@ def merge_log(store: str, target: str) -> None:
     except sqlite3.Error as error:
         raise fault_of_copy(store, target, error) from error
     if mode != "delete" or os.path.exists(target + LOG):
-        raise Fault(f"{target}: the log of the copy can't be merged into it")
+        raise Fault(f"{store}: the log can't be merged into the copy")
 
 
 def copy_merged(store: str, target: str, told: Told = lambda *_: None) -> int:
