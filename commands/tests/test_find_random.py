@@ -344,7 +344,7 @@ class RandomDesks(unittest.TestCase):
             with desks.served(store) as port:
                 by_pages = (f"--port={port}", f"--last={last}")
                 by_copy = (f"--port={port}", f"--store={store}")
-                self.compare([by_pages, by_copy, by_file], questions)
+                self.compare([by_pages, by_copy], questions)
                 self.compare_fields(by_pages, pages)
                 self.compare_orders(by_pages, pages)
         self.assertEqual(met, set(COLUMNS))
