@@ -78,6 +78,8 @@ class Places(unittest.TestCase):
                     told = found(f"--port={port}", "--numbers", *words)[0]
                     self.assertEqual(told, "1150\n1151\n1152\n")
                 self.assertEqual(found(f"--port={port}", "--numbers", "--first=1130")[0], "")
+                told = found(f"--port={port}", "--numbers", "--first=1131")[1]
+                self.assertIn("bugs 1,131 to 1,172 are read, and no later ones", told)
 
     def test_older(self):
         """Desks of older schemas are read, and stay as they are."""
