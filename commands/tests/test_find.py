@@ -198,6 +198,15 @@ class OnDesk(unittest.TestCase):
         ):
             with self.subTest(words):
                 self.assertEqual(self.numbers(*words), wanted)
+        # A bug without a mark, which each version has, but only in the lists of its packages.
+        unmarked = "@report bar - minor y\n@from bob\naffects 7 foo\n"
+        run([desks.program(), self.store, "run"], unmarked)
+        for words, wanted in (
+            (["--affects=foo", "--at=zed/7"], [7]), (["--package=bar", "--at=zed/7"], [7]),
+            (["--package=foo", "--affects=foo", "--at=zed/7"], []), (["--at=zed/7"], []),
+        ):
+            with self.subTest(words):
+                self.assertEqual(self.numbers(*words), wanted)
         for words in (["--at=foo/1_"], ["--at=foo/1", "--at=Foo/1"], ["--package=foo", "--at=/"]):
             output, errors = found(self.store, *words, status=1)
             self.assertEqual(output, "")
