@@ -64,11 +64,10 @@ def maintained_by(options: argparse.Namespace) -> Iterator[Condition]:
 
 
 def questions_at(options: argparse.Namespace) -> list[Question]:
-    """The lists to ask for: of the packages that are named, or of each version's source."""
-    packages = options.package or options.affects
+    """The lists to ask for: of each version's source, or of the packages where it names none."""
     return list(dict.fromkeys(
         (package, version) for version in options.at
-        for package in packages or [version.partition("/")[0]]))
+        for package in ([version.partition("/")[0]] if "/" in version else options.package)))
 
 
 def in_lists(desk: Desk, options: argparse.Namespace) -> Iterator[Condition]:

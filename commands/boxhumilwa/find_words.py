@@ -11,7 +11,7 @@ from .finding import BOTH, NO, ORDERS, YES
 from .page_facts import MOST_MISSING
 from .texts import is_package_name, number_word
 
-WORD = re.compile("[!-~]{1,500}")
+WORD = re.compile("(?!/)[!-~]{1,500}")
 WHICH = (YES, NO, BOTH)
 USAGE = "find [--store=FILE] [--port=N | --socket=PATH] [options]"
 STANDARD_INPUT = "-"

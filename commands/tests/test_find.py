@@ -202,12 +202,13 @@ class OnDesk(unittest.TestCase):
         unmarked = "@report bar - minor y\n@from bob\naffects 7 foo\n"
         run([desks.program(), self.store, "run"], unmarked)
         for words, wanted in (
-            (["--affects=foo", "--at=zed/7"], [7]), (["--package=bar", "--at=zed/7"], [7]),
-            (["--package=foo", "--affects=foo", "--at=zed/7"], []), (["--at=zed/7"], []),
+            (["--at=foo/9"], [3, 7]), (["--at=foo/9", "--package=bar"], [7]),
+            (["--at=bar/9", "--affects=foo"], [7]), (["--at=zed/7", "--package=bar"], []),
+            (["--at=9", "--package=bar", "--affects=foo"], [7]),
         ):
             with self.subTest(words):
                 self.assertEqual(self.numbers(*words), wanted)
-        for words in (["--at=foo/1_"], ["--at=foo/1", "--at=Foo/1"], ["--package=foo", "--at=/"]):
+        for words in (["--at=foo/1_"], ["--at=foo/1", "--at=Foo/1"]):
             output, errors = found(self.store, *words, status=1)
             self.assertEqual(output, "")
             self.assertRegex(errors, "^find: [^\n]*: NO bad (version|package name)\n$")
@@ -274,7 +275,8 @@ class OnDesk(unittest.TestCase):
         for words in (
             [], [self.store, "x"], [self.store, "--severity=huge"], [self.store, "--tag=x"],
             [self.store, "--package=Foo"], [self.store, "--affects=a b"], [self.store, "--at=1"],
-            [self.store, "--at=foo/1\n@show 1"], [self.store, "--at=foo/ 1"], [self.store, "--at="],
+            [self.store, "--at=foo/1\n@show 1"], [self.store, "--at=foo/ 1"],
+            [self.store, "--at=/", "--package=foo"],
             [self.store, "--maintainer=a"], [self.store, "--maintainers=a"], [port, "--socket=x"],
             [self.store, "--json", "--csv"], [self.store, "--last=3"], [port, "--last=0"],
             [port, "--first=5", "--last=4"], [self.store, "--archived=maybe"],
