@@ -21,7 +21,6 @@ import contextlib
 import os
 import shutil
 import sqlite3
-import sys
 from collections.abc import Iterable, Iterator
 
 from .bug_facts import Condition, Row, add_tags, opened_file, select, told_faults
@@ -69,11 +68,10 @@ def maintained_by(options: argparse.Namespace) -> Iterator[Condition]:
 
 
 def questions_at(options: argparse.Namespace) -> list[Question]:
-    """The lists to ask for: of the packages that are named, or of each version's source."""
-    packages = options.package or options.affects
+    """The lists to ask for: of each version's source, or of the packages where it names none."""
     return list(dict.fromkeys(
         (package, version) for version in options.at
-        for package in packages or [version.partition("/")[0]]))
+        for package in ([version.partition("/")[0]] if "/" in version else options.package)))
 
 
 def in_lists(desk: Desk, options: argparse.Namespace) -> Iterator[Condition]:
@@ -138,8 +136,8 @@ def asked_file(
     """A desk in a file, of which a copy is read, and what its bugs have to meet."""
     with private_copy(options.store) as copy:
         # The program is asked before SQLite opens the copy, which only one of them can.
-        wanted = all_conditions(FileDesk(options.program, str(copy)), options)
-        with opened_file(options.store, str(copy)) as connection:
+        wanted = all_conditions(FileDesk(options.program, copy), options)
+        with opened_file(options.store, copy) as connection:
             yield connection, wanted
 
 
@@ -186,7 +184,7 @@ def answer_lines(
         """These columns of the bugs."""
         return select(connection, columns, wanted, ORDERS[options.sort])
 
-    is_terminal = sys.stdout.isatty()
+    is_terminal = os.isatty(1)
     if options.numbers:
         return number_lines(ask(["number"]))
     if options.json:

@@ -1,6 +1,7 @@
 """The command line of `find`: its options, of which each is good by itself and with the others."""
 
 import argparse
+import fnmatch
 import re
 
 from .answers import SEVERITIES, TAGS
@@ -10,7 +11,7 @@ from .finding import BOTH, NO, ORDERS, YES
 from .page_facts import MOST_MISSING
 from .texts import is_package_name, number_word
 
-WORD = re.compile("[!-~]{1,500}")
+WORD = re.compile("(?!/)[!-~]{1,500}")
 WHICH = (YES, NO, BOTH)
 USAGE = "find [--store=FILE] [--port=N | --socket=PATH] [options]"
 STANDARD_INPUT = "-"
@@ -30,6 +31,15 @@ def version_word(word: str) -> str:
     """A version, perhaps with its source."""
     if not WORD.fullmatch(word):
         raise argparse.ArgumentTypeError("a version is 1 to 500 visible ASCII characters")
+    return word
+
+
+def title_pattern(word: str) -> str:
+    """A pattern of a shell."""
+    try:
+        fnmatch.fnmatchcase("", word)
+    except re.error as error:
+        raise argparse.ArgumentTypeError(f"{word!r} is no pattern: {error}") from error
     return word
 
 
@@ -80,7 +90,7 @@ def add_texts(parser: Parser) -> None:
         "--maintainers", metavar="FILE",
         help="lines of a package and its maintainer, for --maintainer")
     tests.add_argument(
-        "--title", action="append", default=[], metavar="PATTERN",
+        "--title", action="append", default=[], type=title_pattern, metavar="PATTERN",
         help="bugs whose whole title is like this, with * ? and [..] as in a shell")
 
 

@@ -5,21 +5,27 @@ or `ann@foo.example (Ann Other)`.
 """
 
 import functools
-import re
 
 from .faults import Fault
 from .indexes import numbered_lines
 
-NAME_FIRST = re.compile(r"(.*?)[ \t]*<([^<>]+)>")
-ADDRESS_FIRST = re.compile(r"([^ \t()]+)[ \t]*\((.*)\)")
 SOURCE = "src:"
+
+
+def parts_of(text: str) -> tuple[str, ...]:
+    """The name and the address in a text, in either order, or nothing."""
+    if text.endswith(">"):
+        return tuple(part.strip(" \t") for part in text[:-1].rpartition("<")[::2])
+    address, sign, name = text.partition("(")
+    address = address.strip(" \t")
+    is_pair = sign and text.endswith(")") and len(address.split()) == 1
+    return (name[:-1], address) if is_pair else ()
 
 
 @functools.lru_cache(maxsize=1 << 16)
 def names_in(text: str) -> frozenset[str]:
     """What somebody may be called whom a text names: by all of it, by the name, by the address."""
-    parts = NAME_FIRST.fullmatch(text) or ADDRESS_FIRST.fullmatch(text)
-    names = [text, *(parts.groups() if parts else ())]
+    names = (text, *parts_of(text))
     return frozenset(
         word.casefold() for name in names for word in (name, name.strip('"')) if word)
 

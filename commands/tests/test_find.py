@@ -12,7 +12,7 @@ import desks
 from desks import command, folder, make_desk, run, written
 from finds import found, on_terminal, output_kept
 
-from boxhumilwa import find
+from boxhumilwa import find, find_words
 from boxhumilwa.answers import TAGS
 
 DESK = """@from Ann Other <ann@foo.example>
@@ -45,6 +45,31 @@ number  severity   state  waiting  package  title
      4  serious    open   0        bar      breaks the build of foo
      5  serious    open   0        bar      breaks the build of foo
 """
+
+# What each option asks of the desk, and what pairs ask, read from the script by hand.
+QUESTIONS = (
+    ("--package=foo", [1, 2, 3]), ("--package=foo --package=bar", [1, 2, 3, 4, 5]),
+    ("--package=zed", []), ("--affects=foo", [4, 5]), ("--affects=bar --affects=foo", [4, 5]),
+    ("--affects=bar", []), ("--severity=grave", [1]), ("--severity=serious", [1, 4, 5]),
+    ("--severity=important --severity=grave", [1, 2, 4, 5]),
+    ("--severity=wishlist", [1, 2, 3, 4, 5]),
+    ("--tag=patch", [1, 2]), ("--tag=security", [2]), ("--tag=patch --tag=security", [1, 2]),
+    ("--tag=wontfix --tag=security", [2]), ("--tag=help", []), ("--not-tag=patch", [3, 4, 5]),
+    ("--not-tag=security", [1, 3, 4, 5]), ("--not-tag=security --not-tag=patch", [3, 4, 5]),
+    ("--tag=patch --not-tag=security", [1]), ("--state=open", [2, 3, 4, 5]), ("--state=done", [1]),
+    ("--state=open --state=done", [1, 2, 3, 4, 5]), ("--archived", [6]), ("--archived=yes", [6]),
+    ("--archived=no", [1, 2, 3, 4, 5]), ("--archived=both", [1, 2, 3, 4, 5, 6]),
+    ("--archived=no --archived=yes", [1, 2, 3, 4, 5, 6]), ("--forwarded", [4, 5]),
+    ("--forwarded=no", [1, 2, 3]), ("--merged", [4, 5]), ("--merged=no", [1, 2, 3]),
+    ("--merged=both", [1, 2, 3, 4, 5]), ("--blocked", [1, 4, 5]), ("--blocked=no", [2, 3]),
+    ("--title=crash*", [1]), ("--title=crash", []), ("--title=*e* --title=*x", [1, 2, 3, 4, 5]),
+    ("--title=*a*t*", [1, 2, 4, 5]), ("--title=Crash*", []), ("--title=[bl]* --owner=-", [4, 5]),
+    ("--blocked --tag=patch", [1]), ("--package=foo --owner=-", [1, 3]),
+    ("--submitter=bob --merged", [4, 5]), ("--submitter=bob --blocked=no", []),
+    ("--archived --severity=grave", [6]), ("--archived --package=foo", []),
+    ("--title=*e* --title=*x --title=c* --state=done", [1]),
+)
+
 
 class OnDesk(unittest.TestCase):
     """Answers over one desk."""
@@ -123,6 +148,12 @@ class OnDesk(unittest.TestCase):
         text, _ = found(self.store, "--csv", "--package=none")
         self.assertEqual(len(text.split("\r\n")), 2)
 
+    def test_each(self):
+        """Each option, one that is given several times, and several options."""
+        for words, wanted in QUESTIONS:
+            with self.subTest(words):
+                self.assertEqual(self.numbers(*words.split()), wanted)
+
     def test_people(self):
         """A person is found by the whole text, the name and the address, in any case."""
         for name in ("Ann Other <ann@foo.example>", "ann OTHER", "ANN@foo.example"):
@@ -167,7 +198,17 @@ class OnDesk(unittest.TestCase):
         ):
             with self.subTest(words):
                 self.assertEqual(self.numbers(*words), wanted)
-        for words in (["--at=foo/1_"], ["--at=foo/1", "--at=Foo/1"], ["--package=foo", "--at=/"]):
+        # A bug without a mark, which each version has, but only in the lists of its packages.
+        unmarked = "@report bar - minor y\n@from bob\naffects 7 foo\n"
+        run([desks.program(), self.store, "run"], unmarked)
+        for words, wanted in (
+            (["--at=foo/9"], [3, 7]), (["--at=foo/9", "--package=bar"], [7]),
+            (["--at=bar/9", "--affects=foo"], [7]), (["--at=zed/7", "--package=bar"], []),
+            (["--at=9", "--package=bar", "--affects=foo"], [7]),
+        ):
+            with self.subTest(words):
+                self.assertEqual(self.numbers(*words), wanted)
+        for words in (["--at=foo/1_"], ["--at=foo/1", "--at=Foo/1"]):
             output, errors = found(self.store, *words, status=1)
             self.assertEqual(output, "")
             self.assertRegex(errors, "^find: [^\n]*: NO bad (version|package name)\n$")
@@ -209,13 +250,33 @@ class OnDesk(unittest.TestCase):
         listed = re.search(r"^The tags are (.*?)\.$", manual, re.MULTILINE | re.DOTALL)[1]
         self.assertEqual(sorted(re.findall("`([a-z0-9-]+)`", listed)), sorted(TAGS))
 
+    def test_completion(self):
+        """Completion has the words of each option that has fixed ones."""
+        packaging = desks.ROOT / "packaging"
+        told = (packaging / "completion-tools").read_text(encoding="utf-8")
+        for sign, value in (("@TOOL@", "find"), ("@OPTIONS@", "--sort=")):
+            told = told.replace(sign, value)
+        script = written(self.folder, "boxhumilwa-find", told)
+        written(self.folder, "boxhumilwa", (packaging / "completion").read_bytes())
+        parser = find_words.find_parser(None)
+        fixed = {it.option_strings[0]: it.choices for it in parser._actions if it.choices}
+        lines = [f". {script}", "compopt() { :; }"] + [
+            f'COMP_WORDS=(boxhumilwa-find {name} = ""); COMP_CWORD=3; '
+            'COMPREPLY=(); _boxhumilwa_tool boxhumilwa-find; echo "${COMPREPLY[*]}"'
+            for name in fixed]
+        completed, _ = run(["bash"], "\n".join(lines))
+        words = [set(line.split()) for line in completed.splitlines()]
+        self.assertEqual(words, [set(choices) for choices in fixed.values()])
+        self.assertEqual(len(fixed), 9)
+
     def test_bad_words(self):
         """Bad words have status 2 and a line."""
         port, other = "--port=80", f"--suite=a={self.folder}"
         for words in (
             [], [self.store, "x"], [self.store, "--severity=huge"], [self.store, "--tag=x"],
             [self.store, "--package=Foo"], [self.store, "--affects=a b"], [self.store, "--at=1"],
-            [self.store, "--at=foo/1\n@show 1"], [self.store, "--at=foo/ 1"], [self.store, "--at="],
+            [self.store, "--at=foo/1\n@show 1"], [self.store, "--at=foo/ 1"],
+            [self.store, "--at=/", "--package=foo"],
             [self.store, "--maintainer=a"], [self.store, "--maintainers=a"], [port, "--socket=x"],
             [self.store, "--json", "--csv"], [self.store, "--last=3"], [port, "--last=0"],
             [port, "--first=5", "--last=4"], [self.store, "--archived=maybe"],

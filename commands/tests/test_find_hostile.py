@@ -35,7 +35,7 @@ class Hostile(unittest.TestCase):
 
     def test_terminal(self):
         """On a terminal no form has what would steer it; the table never has it."""
-        for form in ([], ["--csv"], ["--json"], ["--numbers"]):
+        for form in ([], ["--csv"], ["--json"]):
             self.assert_steers_nothing(on_terminal(80, self.store, *form))
         self.assert_steers_nothing(on_terminal(10, self.store))
         self.assert_steers_nothing(found(self.store)[0])

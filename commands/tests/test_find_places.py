@@ -78,6 +78,8 @@ class Places(unittest.TestCase):
                     told = found(f"--port={port}", "--numbers", *words)[0]
                     self.assertEqual(told, "1150\n1151\n1152\n")
                 self.assertEqual(found(f"--port={port}", "--numbers", "--first=1130")[0], "")
+                told = found(f"--port={port}", "--numbers", "--first=1131")[1]
+                self.assertIn("bugs 1,131 to 1,172 are read, and no later ones", told)
 
     def test_older(self):
         """Desks of older schemas are read, and stay as they are."""
@@ -141,14 +143,23 @@ class Places(unittest.TestCase):
 
     def test_bad_pages(self):
         """A page that no desk writes is told, and read as nothing."""
-        page = "Bug 1\n" + "".join(f"{label}: x\n" for label in page_facts.LABELS)
-        for text in (page, page.replace("Owner", "Owned"), "Bug 1\n", page + "x\n"):
-            with unittest.mock.patch.object(
-                page_facts.ServedDesk, "pages", lambda _, numbers, text=text: iter([text.rstrip()]),
-            ), served(make_desk(self.folder, "", f"{abs(hash(text))}.db")) as port:
-                output, errors = found(f"--port={port}", "--last=1", status=3)
-            self.assertEqual(output, "")
-            self.assertIn("as no desk does", errors)
+        store = make_desk(self.folder, DESK)
+        page = answers(store, ["@show 4"]).removesuffix("\n")
+        with served(store) as port:
+            for old, new, status in (
+                ("", "", 0), ("\nOwner: ", "\nOwned: ", 3), ("Bug 4", "Bug 5", 3),
+                ("\nSeverity: serious", "\nSeverity: huge", 3), ("\nBlocks: -", "", 3),
+                ("\nBlocks: -", "\nBlocks: x", 3), ("\nTags: -", "\nTags: none", 3),
+                ("\nMerged with: 5", "\nMerged with: 5\nMore: x", 3),
+            ):
+                text = page.replace(old, new)
+                with self.subTest(new), unittest.mock.patch.object(
+                    page_facts.ServedDesk, "pages", lambda _, numbers, text=text: iter([text]),
+                ):
+                    output, errors = found(
+                        f"--port={port}", "--numbers", "--first=4", "--last=4", status=status)
+                self.assertEqual(output, "" if status else "4\n")
+                self.assertEqual("as no desk does" in errors, status == 3)
 
 
 if __name__ == "__main__":
