@@ -9,7 +9,7 @@ use sqlite_disk::{Disk, Files};
 use sqlite_trees::store::Reopen;
 use std::alloc::Global;
 use table_crashes::{close_and_open, close_files, crash_and_open, crash_files, open_files};
-use test_doubles::{DatabaseFiles, MemoryFile, connected, new_files};
+use test_doubles::{connected, new_files};
 
 // Two bugs that are merged, and a branch.
 const SCRIPT: &str =
@@ -49,14 +49,13 @@ impl CrashTask for Crash {
 }
 
 // A desk in two files that count their crashes.
-type FileDesk = TableDesk<FileStore<Counted<MemoryFile>>>;
+type CountedDesk = TableDesk<FileStore<Counted>>;
 
 // Two empty files that count their crashes.
-fn counted_files(alloc: Global) -> Files<Counted<MemoryFile>> {
-    let DatabaseFiles { log, db } = new_files(alloc);
+fn counted_files(alloc: Global) -> Files<Counted> {
     Files {
-        log: Counted::new(log),
-        db: Counted::new(db),
+        log: Counted::new(alloc),
+        db: Counted::new(alloc),
     }
 }
 
@@ -73,7 +72,7 @@ pub(crate) fn desk_in_files<D: Disk + Drop>(
 
 // Closes a desk, crashes, and opens what is left.
 // `None` also where a file has crashed another number of times than once.
-fn close_and_crash(alloc: Global, desk: FileDesk) -> Option<FileDesk> {
+fn close_and_crash(alloc: Global, desk: CountedDesk) -> Option<CountedDesk> {
     let files = close_files(desk).ok()?;
     let files = crash_files(files);
     if (files.log.crashes(), files.db.crashes()) != (1, 1) {
@@ -82,17 +81,20 @@ fn close_and_crash(alloc: Global, desk: FileDesk) -> Option<FileDesk> {
     open_files(alloc, files, Options::new(1))
 }
 
-// Whether all is there after a close, or after a close and a crash.
-fn survives_a_close(alloc: Global, crashes: bool) -> bool {
-    let Some(desk) = desk_in_files(alloc, counted_files(alloc)) else {
-        return false;
-    };
-    let again = if crashes {
-        close_and_crash(alloc, desk)
-    } else {
-        close_and_open(alloc, desk, Options::new(1))
-    };
-    shows_all(alloc, again)
+// Whether all is there after a close.
+fn survives_a_close(alloc: Global) -> bool {
+    match desk_in_files(alloc, new_files(alloc)) {
+        Some(desk) => shows_all(alloc, close_and_open(alloc, desk, Options::new(1))),
+        None => false,
+    }
+}
+
+// Whether all is there after a close and a crash.
+fn survives_a_crash(alloc: Global) -> bool {
+    match desk_in_files(alloc, counted_files(alloc)) {
+        Some(desk) => shows_all(alloc, close_and_crash(alloc, desk)),
+        None => false,
+    }
 }
 
 #[test]
@@ -102,10 +104,10 @@ fn a_crash_between_two_calls_loses_nothing(rt: HostRuntime) {
 
 #[test]
 fn a_desk_that_was_closed_is_found_as_it_was(rt: HostRuntime) {
-    assert!(rt; survives_a_close(rt.alloc(), false));
+    assert!(rt; survives_a_close(rt.alloc()));
 }
 
 #[test]
 fn a_crash_after_a_close_loses_nothing(rt: HostRuntime) {
-    assert!(rt; survives_a_close(rt.alloc(), true));
+    assert!(rt; survives_a_crash(rt.alloc()));
 }
