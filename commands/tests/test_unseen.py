@@ -295,15 +295,15 @@ class RandomDesks(Unseen):
         source, package = chance.choice(PACKAGES), chance.choice(PACKAGES)
         version = chance.choice(VERSIONS)
         node = f"{source}/{version}"
-        for words, asked in (
-            ((f"--at={node}",), source), ((f"--at={node}", f"--package={package}"), package),
-            ((f"--at={version}", f"--package={source}"), source),
+        for words, own in (
+            ((f"--at={node}",), PACKAGES), ((f"--at={node}", f"--package={package}"), [package]),
+            ((f"--at={version}", f"--package={source}"), [source]),
         ):
             self.assertEqual(self.found(store, *words), [
                 number for number, page in pages.items()
-                if (len(words) == 1 or page["Package"] == asked)
-                and (is_unplaced(page, asked, node, nodes)
-                     or node not in nodes and is_not_counted(page, asked, node))])
+                if page["Package"] in own and (
+                    is_unplaced(page, source, node, nodes)
+                    or node not in nodes and is_not_counted(page, source, node))])
 
     def found(self, store, *words):
         """The numbers that `find --unseen` writes."""
