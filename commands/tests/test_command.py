@@ -48,9 +48,10 @@ class Places(unittest.TestCase):
             other = [self.told(order, f"--store={store}", f"--program={copy}") for order in orders]
             self.assertEqual(told, other)
             self.assertNotIn("", [output for output, _ in told])
+            needed = {"graph": [branches], "release": [f"--store={store}"]}
             with over_socket(store) as (port, path):
                 for order, wanted in zip(orders, told):
-                    more = [branches] if order[0] == "graph" else []
+                    more = needed.get(order[0], [])
                     for where in (f"--port={port}", f"--socket={path}"):
                         with self.subTest(order, where=where):
                             found = self.told(order, where, program(), *more)
