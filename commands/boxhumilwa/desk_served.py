@@ -1,5 +1,6 @@
 """A desk that is served: where it is, and its answers over HTTP."""
 
+import contextlib
 import http.client
 import pathlib
 import re
@@ -14,6 +15,9 @@ from .faults import Fault
 DEFAULTS = pathlib.Path("/etc/default/boxhumilwa")
 FIRST_PORT = 8080
 SECONDS = 20
+# How often a question is asked whose connection the server closes without a word, as it does with a
+# client that has asked nothing for a second.
+TRIES = 3
 LARGEST_ANSWER = 1 << 30
 Read = TypeVar("Read")
 # What a list is that the server refuses.
@@ -96,6 +100,16 @@ class ServedDesk:
 
     def get(self, path: str) -> tuple[int, list[str]]:
         """The status of an answer, and the lines of its body."""
+        for _ in range(TRIES - 1):
+            with contextlib.suppress(http.client.RemoteDisconnected):
+                return self.get_once(path)
+        try:
+            return self.get_once(path)
+        except http.client.RemoteDisconnected as error:
+            raise Unexpected(repr(error)) from error
+
+    def get_once(self, path: str) -> tuple[int, list[str]]:
+        """The same, by one connection."""
         connection = self.place.connection(SECONDS)
         try:
             connection.request("GET", path)
@@ -103,6 +117,8 @@ class ServedDesk:
             if response.length is None or response.length > LARGEST_ANSWER:
                 raise Unexpected("a body of no length")
             body = response.read()
+        except http.client.RemoteDisconnected:
+            raise
         except http.client.HTTPException as error:
             raise Unexpected(repr(error)) from error
         except TimeoutError as error:

@@ -158,7 +158,10 @@ def over_socket(store):
 
 @contextlib.contextmanager
 def answering(answer):
-    """The port of something that answers each connection with these bytes, or not at all."""
+    """The port of something that answers each connection with these bytes, or not at all.
+
+    A function is called for the bytes of each answer.
+    """
     with socket.create_server(("127.0.0.1", 0)) as server:
         thread = threading.Thread(target=answer_all, args=(server, answer), daemon=True)
         thread.start()
@@ -178,7 +181,7 @@ def answer_all(server, answer):
             kept.append(connection)
             if answer is not None:
                 connection.recv(10_000)
-                connection.sendall(answer)
+                connection.sendall(answer() if callable(answer) else answer)
                 connection.close()
     for connection in kept:
         connection.close()

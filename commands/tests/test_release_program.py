@@ -358,6 +358,20 @@ class OverPort(unittest.TestCase):
                         desk_served.ServedDesk(desk_served.Place(port))
                 self.assertIn(told, str(raised.exception))
 
+    def test_dropped(self):
+        """A question whose connection is closed without a word is asked again, so often."""
+        body = b"Bugs in aa at aa/0: 0\n"
+        answer = b"HTTP/1.1 200 OK\r\nContent-Length: %d\r\n\r\n%s" % (len(body), body)
+        for dropped, is_desk in ((2, True), (3, False)):
+            answers = [b""] * dropped + [answer]
+            with self.subTest(dropped), desks.answering(lambda: answers.pop(0)) as port:
+                place = desk_served.Place(port)
+                if is_desk:
+                    desk_served.ServedDesk(place)
+                else:
+                    self.assertRaises(Fault, desk_served.ServedDesk, place)
+                self.assertEqual(len(answers), 0 if is_desk else 1)
+
     def test_always_alike(self):
         """Something that answers each question as the first one is no desk."""
         body = b"Bugs in aa at aa/0: 0\n"
