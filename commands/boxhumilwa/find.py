@@ -29,7 +29,15 @@ from .desk_file import FileDesk
 from .desk_served import ServedDesk
 from .faults import Fault
 from .find_words import is_served, read_options
-from .finding import ORDERS, add_functions, conditions, in_package, numbered
+from .finding import (
+    ORDERS,
+    add_functions,
+    any_of,
+    conditions,
+    in_package,
+    listed_at,
+    numbered,
+)
 from .found_forms import (
     csv_columns,
     csv_lines,
@@ -39,7 +47,7 @@ from .found_forms import (
     table_columns,
     table_lines,
 )
-from .listed_bugs import Desk, Question, listed
+from .listed_bugs import Desk, Question, listed, node_of
 from .page_facts import Reading, opened_pages
 from .people import maintained
 from .report import Suite, gather
@@ -79,13 +87,20 @@ def in_lists(desk: Desk, options: argparse.Namespace) -> Iterator[Condition]:
     if not options.at:
         return
     questions, progress = questions_at(options), Progress(NAME)
+    # To open a big desk takes the program seconds; what it refuses, an empty one refuses as well.
+    asked: Desk = FileDesk(desk.program, None) if isinstance(desk, FileDesk) else desk
     found: set[int] = set()
-    for (package, version), (numbers, refusal) in zip(questions, listed(desk, questions)):
+    for (package, version), (numbers, refusal) in zip(questions, listed(asked, questions)):
         progress(len(questions), "lists")
         if refusal is not None:
             raise Refused(f"{package} at {version}: {refusal}")
         found |= numbers
-    yield numbered(sorted(found))
+    if isinstance(desk, ServedDesk):
+        yield numbered(sorted(found))
+    else:
+        yield any_of([
+            listed_at(package, *node_of((package, version)).split("/", 1))
+            for package, version in questions])
 
 
 def suites_of(desk: Desk, options: argparse.Namespace) -> list[Suite]:

@@ -136,6 +136,29 @@ def numbered(numbers: Sequence[int]) -> Condition:
     return among("number", numbers)
 
 
+# The tables of a file hold for each version of a branch the mark that decides, as `nearest`.
+LISTED = """archived = 0
+AND (package = ? OR EXISTS (SELECT 1 FROM bug_affects
+  WHERE bug_affects.key = facts.key AND bug_affects.package = ?))
+AND (closed = 0 OR EXISTS (SELECT 1 FROM bug_marks
+  WHERE bug_marks.key = facts.key AND kind = 1))
+AND 0 = coalesce(
+  (SELECT kind FROM main.nearest WHERE set_key = facts.key AND source = ? AND version = ?),
+  (SELECT min(kind) FROM bug_marks
+    WHERE bug_marks.key = facts.key AND source = ? AND version = ?),
+  EXISTS (SELECT 1 FROM bug_marks WHERE bug_marks.key = facts.key AND kind = 0))"""
+
+
+def listed_at(package: str, source: str, version: str) -> Condition:
+    """In a file, it is in the list of a package at this version of a source.
+
+    What is closed and marked nowhere as fixed is done everywhere.
+    Else the mark decides that the version, or the nearest of its ancestors, has; found wins.
+    Where none has one, the version has the bug if it is found nowhere.
+    """
+    return Condition(LISTED, (package, package, source, version, source, version))
+
+
 # The test of each option, by the name of its values; without values there is no test.
 TESTS: dict[str, Callable[[Sequence[str]], Condition]] = {
     "package": in_package, "affects": affects, "submitter": submitted_by, "owner": owned_by,

@@ -282,9 +282,13 @@ class RandomDesks(unittest.TestCase):
         self.addCleanup(place.__exit__, None, None, None)
 
     def questions(self, chance, store, pages):
-        """Each kind of test alone, and pairs of them: their words, and the plain answers."""
+        """Each kind of test alone, and pairs of them: their words, and the plain answers.
+
+        Two kinds of one option are no pair, since one value of an option is enough.
+        """
         kinds = Kinds(chance, store, tempfile.mkdtemp(dir=self.folder))
         pairs = list(itertools.combinations(kinds.names(), 2))
+        pairs.remove(("ask_nobody", "ask_owner"))
         for names in [*((name,) for name in kinds.names()), *chance.sample(pairs, PAIRS)]:
             yield plain_answer(pages, [getattr(kinds, name)() for name in names])
 

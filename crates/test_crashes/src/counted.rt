@@ -1,24 +1,20 @@
 //! A file that counts its crashes.
 
-use sqlite_disk::{Crash, Disk, Memory, Tally};
-use std::alloc::Global;
+use sqlite_disk::{Crash, Disk, Tally};
 use std::io;
 use table_crashes::CountsCrashes;
 
-/// A file in memory, which counts how often it has crashed, up to `u64::MAX`.
+/// A file round another, which counts how often it has crashed, up to `u64::MAX`.
 #[derive(Drop)]
-pub(crate) struct Counted {
-    inner: Memory,
+pub(crate) struct Counted<D: Disk> {
+    inner: D,
     crashes: u64,
 }
 
-impl Counted {
-    /// An empty file that has not crashed yet.
-    pub(crate) fn new(alloc: Global) -> Counted {
-        Counted {
-            inner: Memory::new(alloc),
-            crashes: 0,
-        }
+impl<D: Disk> Counted<D> {
+    /// A file that has not crashed yet.
+    pub(crate) fn new(inner: D) -> Counted<D> {
+        Counted { inner, crashes: 0 }
     }
 
     /// How often it has crashed.
@@ -27,30 +23,30 @@ impl Counted {
     }
 }
 
-impl Disk for Counted {
-    ghost seen = { λ c. Memory.Disk.seen c.inner };
+impl<D: Disk> Disk for Counted<D> {
+    ghost seen = { λ c. D.Disk.seen c.inner };
 
-    ghost may_leave = { λ c. Memory.Disk.may_leave c.inner };
+    ghost may_leave = { λ c. D.Disk.may_leave c.inner };
 
-    ghost is_usable = { λ c. Memory.Disk.is_usable c.inner };
+    ghost is_usable = { λ c. D.Disk.is_usable c.inner };
 
-    ghost faults = { λ c. Memory.Disk.faults c.inner };
+    ghost faults = { λ c. D.Disk.faults c.inner };
 
-    ghost tally_of = { λ c. Memory.Disk.tally_of c.inner };
+    ghost tally_of = { λ c. D.Disk.tally_of c.inner };
 
-    ghost is_rotten = { λ c. Memory.Disk.is_rotten c.inner };
+    ghost is_rotten = { λ c. D.Disk.is_rotten c.inner };
 
-    ghost is_clean = { λ c. Memory.Disk.is_clean c.inner };
+    ghost is_clean = { λ c. D.Disk.is_clean c.inner };
 
-    ghost key_of = { λ c. Memory.Disk.key_of c.inner };
+    ghost key_of = { λ c. D.Disk.key_of c.inner };
 
-    ghost is_fair = { λ c. Memory.Disk.is_fair c.inner };
+    ghost is_fair = { λ c. D.Disk.is_fair c.inner };
 
-    ghost fair_if_clean = { λ c. Memory.Disk.fair_if_clean c.inner };
+    ghost fair_if_clean = { λ c. D.Disk.fair_if_clean c.inner };
 
-    ghost seen_may_stay = { λ c. Memory.Disk.seen_may_stay c.inner };
+    ghost seen_may_stay = { λ c. D.Disk.seen_may_stay c.inner };
 
-    ghost is_mixing = { λ c. Memory.Disk.is_mixing c.inner };
+    ghost is_mixing = { λ c. D.Disk.is_mixing c.inner };
 
     fn mixes(&self) -> bool {
         self.inner.mixes()
@@ -93,14 +89,14 @@ impl Disk for Counted {
     }
 }
 
-impl Crash for Counted {
+impl<D: Crash> Crash for Counted<D> {
     fn crash(&mut self) {
         self.inner.crash();
         self.crashes = self.crashes.saturating_add(1);
     }
 }
 
-impl CountsCrashes for Counted {
+impl<D: Crash> CountsCrashes for Counted<D> {
     ghost crashes = { λ c. c.crashes };
 
     fn crash_once(&mut self) {

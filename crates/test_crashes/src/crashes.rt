@@ -5,7 +5,7 @@ use crate::desks::{desk_after, writes};
 use crate::tasks::{Came, CrashTask, over_new_files};
 use desk_tables::TableDesk;
 use sqlite::{Alter, Connection, FileStore, Options};
-use sqlite_disk::{Disk, Files};
+use sqlite_disk::{Disk, Files, Memory};
 use sqlite_trees::store::Reopen;
 use std::alloc::Global;
 use table_crashes::{close_and_open, close_files, crash_and_open, crash_files, open_files};
@@ -49,13 +49,13 @@ impl CrashTask for Crash {
 }
 
 // A desk in two files that count their crashes.
-type CountedDesk = TableDesk<FileStore<Counted>>;
+type CountedDesk = TableDesk<FileStore<Counted<Memory>>>;
 
 // Two empty files that count their crashes.
-fn counted_files(alloc: Global) -> Files<Counted> {
+fn counted_files(alloc: Global) -> Files<Counted<Memory>> {
     Files {
-        log: Counted::new(alloc),
-        db: Counted::new(alloc),
+        log: Counted::new(Memory::new(alloc)),
+        db: Counted::new(Memory::new(alloc)),
     }
 }
 
