@@ -161,7 +161,8 @@ class Kinds:
 
     def some(self, values):
         """One or two of these."""
-        return self.chance.sample(list(values), self.chance.choice((1, 1, 2)))
+        values = sorted(values)
+        return self.chance.sample(values, min(len(values), self.chance.choice((1, 1, 2))))
 
     def ask_package(self):
         names = self.some(PACKAGES)
