@@ -97,11 +97,11 @@ class MailDesk:
                 self.program, [f"--store={self.store}", "run"], f"@from {sender}\n@report {line}\n",
                 [self.lock])
         text = text.removesuffix("\n")
-        if status == REFUSED:
+        if status == REFUSED and text.startswith("NO "):
             return text
         found = CHANGED.fullmatch(text)
         if found is None:
-            raise Fault(f"the desk answered a report by {text[:100]!r}, as no desk does")
+            raise no_desk("a report", text)
         return int(found[1])
 
     def report(self, report: Report) -> tuple[int | str, bool]:
@@ -115,11 +115,20 @@ class MailDesk:
         """The transcript of a message that has an id, each line of which acts once."""
         try:
             if self.store is None:
-                return sending.send_once(self.place, sender, "\n".join(lines), word)[0]
-            words = [it for line in lines for it in (line, ",")]
-            return sending_file.send_words(self.program, self.store, sender, words, word)[0]
+                text = sending.send_once(self.place, sender, "\n".join(lines), word)[0]
+            else:
+                words = [it for line in lines for it in (line, ",")]
+                text = sending_file.send_words(self.program, self.store, sender, words, word)[0]
         except BadWords as bad:
             return f"NO {bad}\n"
+        if not text.startswith(("> ", "NO ")):
+            raise no_desk("a message", text)
+        return text
+
+
+def no_desk(what: str, text: str) -> Fault:
+    """The fault of an answer that no desk gives."""
+    return Fault(f"the desk answered {what} by {text[:100]!r}, as no desk does")
 
 
 def changed_bugs(transcript: str) -> list[int]:

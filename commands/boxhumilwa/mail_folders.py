@@ -28,15 +28,29 @@ def sync_folder(path: str) -> None:
         os.close(handle)
 
 
-def make_folder(path: str) -> None:
-    """Makes a folder, and has it and those above it saved."""
-    if os.path.isdir(path):
-        return
-    above = os.path.dirname(path)
-    make_folder(above)
-    with contextlib.suppress(FileExistsError):
+def missing(path: str) -> list[str]:
+    """The folders of a path that are not there, the uppermost first."""
+    found: list[str] = []
+    while path and not os.path.isdir(path):
+        found.insert(0, path)
+        path = os.path.dirname(path)
+    return found
+
+
+def make_folders(paths: list[str]) -> None:
+    """Makes folders and those above them, and has their names saved."""
+    made = [it for path in paths for it in missing(path) if not try_folder(it)]
+    for above in dict.fromkeys(map(os.path.dirname, made)):
+        sync_folder(above)
+
+
+def try_folder(path: str) -> bool:
+    """Makes a folder, and answers whether it was there."""
+    try:
         os.mkdir(path)
-    sync_folder(above)
+    except FileExistsError:
+        return True
+    return False
 
 
 def write_file(path: str, data: Iterable[bytes]) -> None:
@@ -79,8 +93,7 @@ def keep(maildir: str, name: str, data: Iterable[bytes], other: str = "") -> str
     with told(path):
         if is_in(maildir, name):
             return path
-        for part in PARTS:
-            make_folder(os.path.join(maildir, part))
+        make_folders([os.path.join(maildir, part) for part in PARTS])
         if other:
             with contextlib.suppress(OSError):
                 os.link(other, path)
@@ -97,7 +110,7 @@ def put(folder: str, name: str, data: bytes) -> str:
     """Puts a file into a plain folder, in the place of one of this name, and answers its path."""
     path = os.path.join(folder, name)
     with told(path):
-        make_folder(folder)
+        make_folders([folder])
         written = os.path.join(folder, f".{name}.part")
         write_file(written, [data])
         os.rename(written, path)

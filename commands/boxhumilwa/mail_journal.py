@@ -91,6 +91,9 @@ class Journal:
         self.path = os.path.join(folder, "journal.db")
         with self.faults():
             self.connection = sqlite3.connect(self.path, timeout=SECONDS, isolation_level=None)
+            # The folder's lock keeps others out; so no file is shared, and each change is one sync.
+            self.connection.execute("PRAGMA locking_mode = EXCLUSIVE")
+            self.connection.execute("PRAGMA journal_mode = WAL")
             self.connection.execute("PRAGMA synchronous = FULL")
             (version,) = self.connection.execute("PRAGMA user_version").fetchone()
             if version == 0:
@@ -180,15 +183,16 @@ class Journal:
             (count,) = self.connection.execute("SELECT bytes FROM total").fetchone()
         return int(count)
 
-    def keep(self, bugs: list[int], name: str, size: int) -> None:
-        """Counts once what is kept with bugs, all of which have the same file."""
-        rows = [(bug, name, size if place == 0 else 0) for place, bug in enumerate(bugs)]
+    def keep(self, bugs: list[int], files: list[tuple[str, int]]) -> None:
+        """Counts once what is kept with bugs, all of which have the same files of these sizes."""
         with self.faults(), self.connection:
             self.connection.execute("BEGIN IMMEDIATE")
-            added = self.connection.executemany(
-                "INSERT OR IGNORE INTO kept VALUES (?, ?, ?)", rows).rowcount
-            if added == len(rows):
-                self.connection.execute("UPDATE total SET bytes = bytes + ?", (size,))
+            for name, size in files:
+                rows = [(bug, name, size if place == 0 else 0) for place, bug in enumerate(bugs)]
+                added = self.connection.executemany(
+                    "INSERT OR IGNORE INTO kept VALUES (?, ?, ?)", rows).rowcount
+                if added == len(rows):
+                    self.connection.execute("UPDATE total SET bytes = bytes + ?", (size,))
 
     def set_total(self, count: int) -> None:
         """Notes how many bytes are kept, as somebody has counted them."""

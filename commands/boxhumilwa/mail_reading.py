@@ -141,6 +141,8 @@ def addresses(value: object) -> list[tuple[str, str]]:
 
 def is_too_deep(data: bytes) -> bool:
     """Whether a mail is nested too deep, or too deep for its many lines."""
+    if not NESTING.search(data[:len(data) - len(body_of(data))]):
+        return False
     depth = sum(1 for _ in NESTING.finditer(data))
     return depth > MOST_NESTED or (depth > 1 and depth * data.count(b"\n") > MOST_TRIES)
 

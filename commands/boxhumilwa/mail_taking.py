@@ -198,8 +198,8 @@ def keep_all(delivery: Delivery, plan: Plan, outcome: Outcome) -> None:
     if outcome.transcript and delivery.target:
         kept.append((f"{delivery.key}.transcript", mail_answers.transcript(
             delivery.mail, plan.sender, delivery.target, outcome)))
+    delivery.journal.keep(bugs, [(name, len(data)) for name, data in kept])
     for name, data in kept:
-        delivery.journal.keep(bugs, name, len(data))
         other = ""
         for bug in bugs:
             other = mail_folders.keep(

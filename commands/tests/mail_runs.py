@@ -24,6 +24,14 @@ DAY = """@from ann
 """
 
 
+MEMORY = pathlib.Path("/dev/shm")
+
+
+def folder():
+    """A folder that is removed in the end; in memory, since each mail is saved many times."""
+    return tempfile.TemporaryDirectory(dir=MEMORY if MEMORY.is_dir() else None)
+
+
 def fixture(name):
     """The bytes of a mail that a client wrote."""
     return (MAILS / name).read_bytes()

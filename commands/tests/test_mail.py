@@ -9,7 +9,7 @@ import subprocess
 import unittest
 
 import desks
-from mail_runs import ANN, DAY, DOMAIN, Gateway, fixture, forked, written
+from mail_runs import ANN, DAY, DOMAIN, Gateway, fixture, folder, forked, written
 
 REPORT = """Package: foo
 Version: 1.0-2
@@ -42,9 +42,9 @@ class Case(unittest.TestCase):
     """A test with a desk and a gateway of its own."""
 
     def setUp(self):
-        place = desks.folder()
-        self.gateway = Gateway(place.__enter__())
-        self.addCleanup(place.__exit__, None, None, None)
+        place = folder()
+        self.gateway = Gateway(place.name)
+        self.addCleanup(place.cleanup)
 
     def assert_page(self, number, wanted):
         """The page of a bug says this."""
@@ -143,7 +143,7 @@ class Taken(Case):
         control = written(SENDER, "x", "retitle 1 a, b,\n-1\n.\nrun\nseverity 1 minor,\n", "m2")
         pages = []
         for kind in range(3):
-            with desks.folder() as place:
+            with folder() as place:
                 gateway = Gateway(place)
                 with desks.over_socket(gateway.store) as (port, path):
                     if kind:
@@ -158,7 +158,8 @@ class Taken(Case):
         self.assertEqual(pages[0], pages[1])
         self.assertEqual(pages[0], pages[2])
         self.assertEqual(len(pages[0][1]), 2)
-        self.assertIn(">  retitle 1 a, b, \nOK 1\n>  -1 \nNO unknown command\n", pages[0][1][1])
+        wanted = ">  retitle 1 a, b, \nOK 1\n>  -1 \nNO unknown command\n"
+        self.assertIn(wanted, "".join(pages[0][1]))
 
     def test_clients(self):
         """Mails of reportbug, mutt, swaks and a signed one are read as they were meant."""
@@ -197,7 +198,7 @@ class Taken(Case):
         box.close()
         (self.gateway.place / "bts.mbox").write_bytes(fixture("bts.mbox"))
         mails = list(mailbox.mbox(self.gateway.place / "bts.mbox"))
-        with desks.folder() as place, desks.folder() as other:
+        with folder() as place, folder() as other:
             gateway = Gateway(place, script)
             lines = []
             with desks.served(gateway.store) as port:
