@@ -91,9 +91,9 @@ class Journal:
         self.path = os.path.join(folder, "journal.db")
         with self.faults():
             self.connection = sqlite3.connect(self.path, timeout=SECONDS, isolation_level=None)
-            # The folder's lock keeps others out; so no file is shared, and each change is one sync.
+            # No WAL: on a disk that is nearly full it would grow by each delivery that fails.
             self.connection.execute("PRAGMA locking_mode = EXCLUSIVE")
-            self.connection.execute("PRAGMA journal_mode = WAL")
+            self.connection.execute("PRAGMA journal_mode = TRUNCATE")
             self.connection.execute("PRAGMA synchronous = FULL")
             (version,) = self.connection.execute("PRAGMA user_version").fetchone()
             if version == 0:
