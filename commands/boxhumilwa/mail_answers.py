@@ -82,7 +82,7 @@ def answer(mail: Mail, to: str, target: Target | None, domain: str, outcome: Out
     own = f"{outcome.number or CONTROL}@{place}"
     return message(answer_text(mail, outcome), {
         "From": own, "To": to, "Subject": subject_of(mail, outcome), "Reply-To": own,
-        "Date": email.utils.formatdate(outcome.time),
+        "Date": email.utils.formatdate(outcome.time, usegmt=True),
         "Message-ID": f"<{outcome.key}.answer@{place}>", **thread(mail),
         "Auto-Submitted": "auto-replied", "Precedence": "bulk", MARK: "answer"})
 
@@ -95,6 +95,6 @@ def transcript(mail: Mail, sender: str, target: Target, outcome: Outcome) -> byt
                                         *outcome.transcript.removesuffix("\n").split("\n")]
                 for cut in pieces(line)),
         {"From": f"{CONTROL}@{place}", "To": mail.address,
-         "Subject": "What a mail changed", "Date": email.utils.formatdate(outcome.time),
+         "Subject": "What a mail changed", "Date": email.utils.formatdate(outcome.time, usegmt=True),
          "Message-ID": f"<{outcome.key}.transcript@{place}>", **thread(mail),
          "Auto-Submitted": "auto-generated", MARK: "transcript"})

@@ -40,7 +40,7 @@ def missing(path: str) -> list[str]:
 def make_folders(paths: list[str]) -> None:
     """Makes folders and those above them, and has their names saved."""
     made = [it for path in paths for it in missing(path) if not try_folder(it)]
-    for above in dict.fromkeys(map(os.path.dirname, made)):
+    for above in dict.fromkeys(os.path.dirname(path) for path in made):
         sync_folder(above)
 
 

@@ -149,7 +149,7 @@ def state_lines(it: State) -> Iterator[str]:
         yield shown(f"{HELD}: {mail['file']} to {mail['to']} from {mail['sender'] or '<>'}: "
                     f"{reasons}")
     for mail in it.begun:
-        since = email.utils.formatdate(mail["since"])
+        since = email.utils.formatdate(mail["since"], usegmt=True)
         yield shown(f"not ended: to {mail['to']} from {mail['sender'] or '<>'} since {since}")
     for name, size in it.sizes.items():
         yield f"{name}: {size:,} bytes"
