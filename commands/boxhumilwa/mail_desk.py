@@ -140,15 +140,13 @@ def changed_bugs(transcript: str) -> list[int]:
 # Reports that may have been made.
 
 
-def found_bug(journal: Journal, desk: MailDesk, row: Row) -> int | None:
+def found_bug(desk: MailDesk, row: Row) -> int | None:
     """The bug that a report has made whose number is not noted; None where it has made none."""
     start = row.next or 1
-    taken = journal.bugs_from(start)
     report = Report(*row.plan["report"])
     end = desk.next_number(0) if desk.store is not None else MOST_NUMBERS + 1
     for number, page in enumerate(desk.pages(range(start, end)), start):
-        is_meant = (page.get("Title"), page.get("Submitter")) == (report.title, report.sender)
-        if is_meant and number not in taken:
+        if (page.get("Title"), page.get("Submitter")) == (report.title, report.sender):
             return number
     return None
 
@@ -156,4 +154,4 @@ def found_bug(journal: Journal, desk: MailDesk, row: Row) -> int | None:
 def settle(journal: Journal, desk: MailDesk) -> None:
     """Notes of each report that may have made a bug whether it has, and which."""
     for row in journal.pending():
-        journal.set_bug(row.key, found_bug(journal, desk, row))
+        journal.set_bug(row.key, found_bug(desk, row))

@@ -154,13 +154,6 @@ class Journal:
         """The reports that may have made a bug whose number is not noted."""
         return self.rows("state = ? AND next IS NOT NULL AND bug IS NULL", BEGUN)
 
-    def bugs_from(self, number: int) -> set[int]:
-        """The numbers from this one on that are noted."""
-        with self.faults():
-            found = self.connection.execute(
-                "SELECT bug FROM mails WHERE bug >= ? AND next IS NOT NULL", (number,))
-            return {bug for bug, in found}
-
     def last_bug(self) -> int:
         """The highest number that is noted."""
         with self.faults():

@@ -152,9 +152,10 @@ def own_parts(message: email.message.Message) -> list[email.message.Message]:
     waiting, found = [message], []
     while waiting:
         part = waiting.pop()
-        payload = part.get_payload()
-        if isinstance(payload, list) and part.get_content_maintype() == "multipart":
-            waiting.extend(reversed([it for it in payload if isinstance(it, email.message.Message)]))
+        # What a part without parts holds is not asked for here: that would decode it.
+        if part.is_multipart() and part.get_content_maintype() == "multipart":
+            inner = part.get_payload()
+            waiting.extend(reversed([it for it in inner if isinstance(it, email.message.Message)]))
         else:
             found.append(part)
     return found

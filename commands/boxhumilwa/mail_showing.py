@@ -42,7 +42,10 @@ def read_file(path: str) -> bytes:
 
 def part_told(part: email.message.Message) -> dict[str, Any]:
     """What is told of a part that is not the text of a mail."""
-    name = part.get_filename() or ""
+    try:
+        name = part.get_filename() or ""
+    except (ValueError, LookupError, TypeError):
+        name = ""
     return {
         "type": header_text(part.get_content_type()), "name": header_text(name)[:200],
         "bytes": len(part_bytes(part))}

@@ -121,9 +121,13 @@ class Gateway:
         return it
 
     def kept(self, number):
-        """The mails of a bug's Maildir, as another reader of Maildirs has them."""
+        """The mails of a bug's Maildir, as another reader of Maildirs has them; each is one file."""
         path = self.folder / "bugs" / f"{number % 100:02}" / str(number)
-        return list(mailbox.Maildir(path, create=False)) if path.is_dir() else []
+        mails = list(mailbox.Maildir(path, create=False)) if path.is_dir() else []
+        files = [*path.glob("new/*"), *path.glob("cur/*")]
+        if len(files) != len(mails):
+            raise AssertionError(f"bug {number} has {len(mails)} mails in {len(files)} files")
+        return mails
 
     def said(self, number):
         """How many mails and how many transcripts are kept with a bug."""

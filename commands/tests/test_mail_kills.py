@@ -25,6 +25,7 @@ from mail_runs import Gateway, folder, written
 IS_LONG = "ROUNDS" in os.environ
 ROUNDS = int(os.environ.get("ROUNDS", "16"))
 SENDER = "Ann Maintainer <ann@example.org>"
+PAGE = 4_096
 # Three lines, each of which would do more if it acted twice.
 MAIL = written(SENDER, "loses a line", """Package: foo
 Version: 1.0-2
@@ -206,6 +207,38 @@ class Settled(Case):
                     told = gateway.take(data + str(number).encode(), "submit", *words)
                     self.assertEqual(told, f"taken: bug {number}")
 
+    def stopped_before(self, gateway, data, to, name, *options):
+        """A delivery that stops as it is about to call this function of the order of steps."""
+        def begin():
+            from boxhumilwa import mail_taking
+            setattr(mail_taking, name, lambda *_: os.kill(os.getpid(), signal.SIGKILL))
+
+        status, _, errors = gateway.give(data, to, *options, begin=begin)
+        self.assertEqual(status, -signal.SIGKILL, errors)
+
+    def test_same_lines(self):
+        """A second delivery sends what the first one sent, whatever its files say by then."""
+        with folder() as place:
+            gateway = Gateway(place)
+            packages = desks.written(place, "packages", "foo 9 foo 2.0-1\n")
+            words = f"--packages={packages}"
+            data = written(SENDER, "x", "Package: foo\nVersion: 9\n\nMended.", "m1")
+            self.stopped_before(gateway, data, "1-done", "keep_all", words)
+            packages.write_text("foo 9 foo 3\n")
+            self.assertEqual(gateway.take(data, "1-done", words), "taken: bug 1")
+            self.assertIn("> close 1 foo/2.0-1\nOK 1\n", gateway.answer().get_content())
+            self.assertEqual(gateway.page(1)["Fixed"], "foo/2.0-1")
+
+    def test_read_meanwhile(self):
+        """A mail that was read before it comes again is not kept a second time."""
+        with folder() as place:
+            gateway = Gateway(place)
+            self.stopped_before(gateway, MAIL, "submit", "write_answer")
+            for path in gateway.folder.glob("bugs/*/*/new/*"):
+                path.rename(path.parent.parent / "cur" / f"{path.name}:2,S")
+            self.give_until_taken(gateway)
+            self.assert_once(gateway, "read")
+
     def test_two_at_once(self):
         """Two deliveries of one mail at a time make one bug, and so do many."""
         with folder() as place:
@@ -279,16 +312,18 @@ class NoRoom(Case):
                 gateway.take(data, "submit")
             self.assert_once(gateway, "sizes")
 
-    def fill(self, gateway, room):
-        """Gives the mail to a folder with more and more room, until it is taken."""
+    def fill(self, gateway):
+        """Gives the mail to a folder that is full, and then has a page more each time."""
         filler, refused, status = gateway.folder / "filler", 0, 75
-        filler.write_bytes(b"x" * (400 - room) * 1024)
-        while status and room < 400:
+        state = os.statvfs(gateway.folder)
+        size = state.f_bavail * state.f_frsize
+        filler.write_bytes(b"x" * size)
+        while status and size:
             status, _, errors = gateway.give(MAIL, "submit")
             self.assertIn(status, (0, 75), errors)
             self.assertLessEqual(errors.count("\n"), 1)
-            refused, room = refused + (status != 0), room + 4
-            os.truncate(filler, (400 - room) * 1024)
+            refused, size = refused + (status != 0), max(0, size - PAGE)
+            os.truncate(filler, size)
         filler.unlink()
         self.assertEqual((status, refused > 2), (0, True))
 
@@ -305,7 +340,7 @@ class NoRoom(Case):
             try:
                 if not is_new:
                     gateway.take(written(SENDER, "other", "severity 1 minor\n", "m2"), "control")
-                self.fill(gateway, 4 if is_new else 72)
+                self.fill(gateway)
                 self.assert_once(gateway, "full")
             finally:
                 subprocess.run(["umount", gateway.folder], check=True)
