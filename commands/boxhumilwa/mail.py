@@ -97,7 +97,8 @@ def read_options(words: list[str]) -> argparse.Namespace:
         raise BadWords(f"{options.job} is no job: {', '.join(JOBS)}")
     needs_number = options.job in (SHOW, MBOX)
     if needs_number != (options.number is not None):
-        raise BadWords(f"{options.job} takes {'the number of a bug' if needs_number else 'no word'}")
+        what = "the number of a bug" if needs_number else "no word"
+        raise BadWords(f"{options.job} takes {what}")
     if needs_number:
         word = options.number.removeprefix("#")
         if not (word.isascii() and word.isdecimal() and 0 < int(word[:20]) <= LARGEST_NUMBER):
@@ -196,7 +197,7 @@ def work(words: list[str]) -> int:
 
 
 def is_delivery(words: list[str]) -> bool:
-    """Whether a command line, be it wrong, is for a delivery: it names no other job, nor the help."""
+    """Whether a command line, be it wrong, is for a delivery: it names no other job and no help."""
     before = ["", *words]
     return not any(
         word in (SHOW, MBOX, CHECK, "--help", "-h")

@@ -94,7 +94,7 @@ def transcript(mail: Mail, sender: str, target: Target, outcome: Outcome) -> byt
         "".join(f"{cut}\n" for line in [f"{sender} to {target}@:", "",
                                         *outcome.transcript.removesuffix("\n").split("\n")]
                 for cut in pieces(line)),
-        {"From": f"{CONTROL}@{place}", "To": mail.address,
-         "Subject": "What a mail changed", "Date": email.utils.formatdate(outcome.time, usegmt=True),
+        {"From": f"{CONTROL}@{place}", "To": mail.address, "Subject": "What a mail changed",
+         "Date": email.utils.formatdate(outcome.time, usegmt=True),
          "Message-ID": f"<{outcome.key}.transcript@{place}>", **thread(mail),
          "Auto-Submitted": "auto-generated", MARK: "transcript"})

@@ -39,7 +39,9 @@ class Report(NamedTuple):
 class MailDesk:
     """A desk, in a file or served; `lock` is held by each run of the program that reports."""
 
-    def __init__(self, program: str, store: str | None, place: Place, first: int, lock: int) -> None:
+    def __init__(
+        self, program: str, store: str | None, place: Place, first: int, lock: int,
+    ) -> None:
         self.program, self.store, self.place = program, store, place
         self.first, self.lock = first, lock
 

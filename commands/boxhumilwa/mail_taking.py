@@ -157,6 +157,7 @@ def noted_plan(delivery: Delivery, row: Row) -> tuple[Plan, Row]:
     if known and known.state == BEGUN and "lines" in known.plan:
         plan, row = Plan(**known.plan), known
     else:
+        test_room(delivery)
         settings = delivery.settings
         rules = Rules(settings.packages, read_allowed(settings.allow))
         plan = plan_of(delivery.mail, delivery.target, rules, delivery.desk)
@@ -208,7 +209,6 @@ def keep_all(delivery: Delivery, plan: Plan, outcome: Outcome) -> None:
 
 def carry_out(delivery: Delivery, row: Row) -> str:
     """Carries out a mail, and tells what has become of it."""
-    test_room(delivery)
     plan, row = noted_plan(delivery, row)
     number, told = bug_at_hand(delivery, plan, row)
     lines = message_lines(delivery, plan, number)

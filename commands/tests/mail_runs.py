@@ -121,7 +121,7 @@ class Gateway:
         return it
 
     def kept(self, number):
-        """The mails of a bug's Maildir, as another reader of Maildirs has them; each is one file."""
+        """The mails of a bug's Maildir, as another reader has them; each is one file."""
         path = self.folder / "bugs" / f"{number % 100:02}" / str(number)
         mails = list(mailbox.Maildir(path, create=False)) if path.is_dir() else []
         files = [*path.glob("new/*"), *path.glob("cur/*")]

@@ -99,7 +99,8 @@ class Taken(Case):
     def test_control(self):
         """Commands are carried out up to the word that ends them, and kept with what they changed.
         """
-        text = "# none\n\nseverity 1 minor\nmerge 2 3\nnonsense\n tags 2 + help \nThank You\nclose 1\n"
+        text = ("# none\n\nseverity 1 minor\nmerge 2 3\nnonsense\n tags 2 + help \nThank You\n"
+                "close 1\n")
         data = written(SENDER, "hello", text, "m1")
         self.assertEqual(self.gateway.take(data, "control"), "taken")
         wanted = ["> severity 1 minor", "OK 1", "> merge 2 3", "NO bug 3 differs in severity",

@@ -39,13 +39,14 @@ TRANSCRIPT = ("> clone 4 -2\nOK 5\n> retitle -2 loses another line\nOK 5\n> clon
 # The functions that reach the system, or another program.
 CALLS = {
     "open", "close", "write", "writelines", "flush", "fsync", "rename", "link", "mkdir", "unlink",
-    "flock", "execute", "executemany", "executescript", "connect", "sendall", "recv_into", "readinto",
-    "read", "__exit__", "fork_exec", "waitpid", "listdir", "scandir", "stat",
+    "flock", "execute", "executemany", "executescript", "connect", "sendall", "recv_into",
+    "readinto", "read", "__exit__", "fork_exec", "waitpid", "listdir", "scandir", "stat",
 }
 # Calls by strace, each of which may be the one that a delivery is stopped at.
 SYSTEM_CALLS = (
-    "openat", "write", "pwrite64", "fsync", "fdatasync", "rename", "link", "mkdir", "unlink", "flock",
-    "fcntl", "close", "sendto", "recvfrom", "connect", "ftruncate", "read", "pread64", "newfstatat")
+    "openat", "write", "pwrite64", "fsync", "fdatasync", "rename", "link", "mkdir", "unlink",
+    "flock", "fcntl", "close", "sendto", "recvfrom", "connect", "ftruncate", "read", "pread64",
+    "newfstatat")
 
 
 def stopper(number, counts=None):

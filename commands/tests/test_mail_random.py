@@ -1,8 +1,8 @@
 """Tests of `mail` over random and mutated mails, beside a plain reading of what was accepted.
 
 MAILS, which the environment sets, says how many, and SEED which.
-Mails of clients, those of Python's own tests where they are installed, and made ones are cut, joined
-and changed; each is given to a random address of one desk.
+Mails of clients, those of Python's own tests where they are installed, and made ones are cut,
+joined and changed; each is given to a random address of one desk.
 What the journal says was accepted is then sent by hand to another desk, which has to be the same.
 """
 
@@ -23,9 +23,10 @@ ADDRESSES = ("submit", "bugs", "control", "1", "2-done", "3-quiet", "4", "2-forw
 LINES = (
     "Package: foo", "Package: bar\nVersion: 1.0-2", "Version: 2.0-1", "Severity: grave",
     "Tags: patch help", "Owner: !", "Control: clone -1 -2\nControl: retitle -2 x",
-    "Control: tags -1 + help", "Forwarded: a@b", "Affects: bar", "severity 1 minor", "close 2 2.0-1",
-    "found 2 3", "merge 1 2", "block 1 by 2, 3", "clone 3 -1\nretitle -1 y", "owner 2 !", "@list foo 1",
-    "archive 1", "thanks", "--", "", "-- ", "It does.", "reopen 2 =", "tags 1, patch", "\u00e9\u202e",
+    "Control: tags -1 + help", "Forwarded: a@b", "Affects: bar", "severity 1 minor",
+    "close 2 2.0-1", "found 2 3", "merge 1 2", "block 1 by 2, 3", "clone 3 -1\nretitle -1 y",
+    "owner 2 !", "@list foo 1", "archive 1", "thanks", "--", "", "-- ", "It does.", "reopen 2 =",
+    "tags 1, patch", "\u00e9\u202e",
     "submitter 3 Bob <bob@example.org>", "retitle 3 a, b,", "run", ".", "forwarded 2 x y")
 HEADERS = (
     "From: Ann <ann@example.org>", "From: =?utf-8?b?w6k=?= <bob@example.org>", "Subject: crash",
@@ -90,7 +91,7 @@ def taken_rows(gateway):
 
 
 def by_hand(bug, plan):
-    """The script of a mail: its report, and its lines for a bug, with no line that begins with @."""
+    """The script of a mail: its report, and its lines, none of which begins with @."""
     lines = [f"@from {plan['sender']}"]
     if plan["report"]:
         _, *words = plan["report"]
