@@ -201,9 +201,13 @@ def closing_lines(values: dict[str, str], mail: Mail, rules: Rules, desk: MailDe
     return [f"close -1 {version}".rstrip()], notes
 
 
-def own_lines(mail: Mail, target: Target, pseudo: Pseudo, rules: Rules, desk: MailDesk) -> tuple[
-        list[str], list[str]]:
-    """The lines that a mail about a bug stands for, and what has to be told of them."""
+def own_lines(
+    mail: Mail, target: Target, pseudo: Pseudo, rules: Rules, desk: MailDesk, forwarded: str,
+) -> tuple[list[str], list[str]]:
+    """The lines that a mail about a bug stands for, and what has to be told of them.
+
+    A bug that is forwarded stays so, since who answers a mail to upstream keeps the desk in copy.
+    """
     lines = list(pseudo.control)
     notes: list[str] = []
     if target.kind == DONE:
@@ -211,7 +215,7 @@ def own_lines(mail: Mail, target: Target, pseudo: Pseudo, rules: Rules, desk: Ma
             raise Refusal(f"{WRONG[mail.wrong]}\nThe bug was not closed.")
         closing, notes = closing_lines(pseudo.values, mail, rules, desk)
         lines = closing + lines
-    if target.kind == FORWARDED:
+    if target.kind == FORWARDED and forwarded == "-":
         lines = forwarded_lines(mail, target) + lines
     if lines and not rules.may_control(mail):
         return [], [f"{mail.address} may send no commands: the mail is kept, and no more."]
@@ -227,7 +231,8 @@ def said_plan(mail: Mail, target: Target, rules: Rules, desk: MailDesk) -> Plan:
     if page is None:
         raise Refusal(f"There is no bug {number} here: nothing was kept.")
     pseudo = mail_headers.read_pseudo(mail.text)
-    lines, notes = own_lines(mail, target, pseudo, rules, desk)
+    lines, notes = own_lines(
+        mail, target, pseudo, rules, desk, page.get("Forwarded", "-"))
     sender = sender_of(mail)
     test_size(pseudo, sender, lines)
     if page.get("Archived") == "yes":

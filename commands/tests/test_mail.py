@@ -95,6 +95,9 @@ class Taken(Case):
             self.assert_page(1, wanted)
             self.assertEqual(self.gateway.said(1)[0], place)
         self.assertEqual(len(self.gateway.answers()), 1)
+        reply = written("up@example.net", "Re: x", "No.", "r1", f"To: {ANN}")
+        self.gateway.take(reply, "1-forwarded")
+        self.assert_page(1, {"Forwarded": "upstream@example.net, bob@example.org"})
 
     def test_control(self):
         """Commands are carried out up to the word that ends them, and kept with what they changed.
