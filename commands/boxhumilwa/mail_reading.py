@@ -141,7 +141,7 @@ def addresses(value: object) -> list[tuple[str, str]]:
 
 def is_too_deep(data: bytes) -> bool:
     """Whether a mail is nested too deep, or too deep for its many lines."""
-    if not NESTING.search(data[:len(data) - len(body_of(data))]):
+    if not NESTING.search(head_of(data)):
         return False
     depth = sum(1 for _ in NESTING.finditer(data))
     return depth > MOST_NESTED or (depth > 1 and depth * data.count(b"\n") > MOST_TRIES)
@@ -212,9 +212,25 @@ def body_of(data: bytes) -> bytes:
     return data[found.end():] if found else b""
 
 
+def head_of(data: bytes) -> bytes:
+    """The head of a mail, with the empty line."""
+    return data[:len(data) - len(body_of(data))]
+
+
 def identities(value: object) -> tuple[str, ...]:
     """The Message-IDs of a header."""
     return tuple(IDENTITY.findall(raw_text(value)))
+
+
+def message_of(data: bytes) -> email.message.Message:
+    """The message of bytes; the lines of a body without parts are not looked at one by one."""
+    head, body = head_of(data), body_of(data)
+    message = email.message_from_bytes(head, policy=POLICY)
+    # What stands above the empty line and is no header belongs to the body.
+    if NESTING.search(head) or part_bytes(message):
+        return email.message_from_bytes(data, policy=POLICY)
+    message.set_payload(body.decode("ascii", "surrogateescape"))
+    return message
 
 
 def parsed(data: bytes) -> tuple[email.message.Message, str, str, str]:
@@ -222,11 +238,11 @@ def parsed(data: bytes) -> tuple[email.message.Message, str, str, str]:
     wrong = TOO_BIG if len(data) > LARGEST else TOO_DEEP if is_too_deep(data) else ""
     try:
         if not wrong:
-            message = email.message_from_bytes(data, policy=POLICY)
+            message = message_of(data)
             return message, *text_of(message)
     except (RecursionError, ValueError, LookupError, AttributeError, TypeError):
         wrong = TOO_DEEP
-    head = data[:len(data) - len(body_of(data))][:LARGEST // 10]
+    head = head_of(data)[:LARGEST // 10]
     return email.message_from_bytes(head, policy=POLICY), "", wrong, ""
 
 

@@ -1,6 +1,5 @@
 """What was said about a bug, and what of the gateway's folder wants somebody's care."""
 
-import email
 import email.message
 import email.utils
 import json
@@ -12,7 +11,7 @@ from typing import Any, NamedTuple
 from . import mail_folders
 from .faults import Fault
 from .mail_journal import BEGUN, HELD, Journal
-from .mail_reading import POLICY, header_text, is_attached, own_parts, part_bytes, read_mail
+from .mail_reading import header_text, is_attached, message_of, own_parts, part_bytes, read_mail
 from .terminal import json_text, plural, shown
 
 HEADERS = ("From", "To", "Date", "Subject")
@@ -55,7 +54,7 @@ def said(path: str) -> Said:
     """A mail that is kept."""
     data = read_file(path)
     mail = read_mail(data)
-    message = email.message_from_bytes(data, policy=POLICY)
+    message = message_of(data)
     headers = {name: header_text(message.get(name)) for name in HEADERS}
     parts = own_parts(message)
     text = next((it for it in parts if it.get_content_type() == "text/plain"

@@ -139,6 +139,7 @@ def refuse(delivery: Delivery, row: Row, reason: str) -> str:
         return f"held: {first_line(reason)} ({silence})"
     number = delivery.target.number if delivery.target else None
     write_answer(delivery, Outcome(row.key, row.time, number, "", reason.split("\n"), ""))
+    mail_folders.remove_held(delivery.settings.folder, row.key)
     journal.end(row.key, REFUSED)
     return f"refused: {first_line(reason)}"
 

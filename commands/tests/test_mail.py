@@ -1,5 +1,6 @@
 """Tests of `mail`: what each address means, what is kept, and what is answered."""
 
+import contextlib
 import email.utils
 import json
 import mailbox
@@ -198,10 +199,9 @@ class Taken(Case):
         """Each of bts(1)'s commands does what its lines do to another desk."""
         script = DAY + "".join(f"@report foo 1.0-1 normal bug {it}\n" for it in range(4, 7))
         script += "@report foo 1.0-1 normal archived\nclose 7\nfixed 7 1.0-1\n"
-        box = mailbox.mbox(self.gateway.place / "bts.mbox", create=True)
-        box.close()
-        (self.gateway.place / "bts.mbox").write_bytes(fixture("bts.mbox"))
-        mails = list(mailbox.mbox(self.gateway.place / "bts.mbox"))
+        path = desks.written(self.gateway.place, "bts.mbox", fixture("bts.mbox"))
+        with contextlib.closing(mailbox.mbox(path)) as box:
+            mails = list(box)
         with folder() as place, folder() as other:
             gateway = Gateway(place, script)
             lines = []
@@ -235,7 +235,8 @@ class Shown(Case):
         status, output, _ = self.gateway.job("mbox", "1")
         path = pathlib.Path(self.gateway.place, "mbox")
         path.write_text(output)
-        mails = list(mailbox.mbox(path))
+        with contextlib.closing(mailbox.mbox(path)) as box:
+            mails = list(box)
         self.assertEqual((status, len(mails)), (0, 3))
         self.assertEqual(
             mails[0].get_payload(), ">From here on.\n>>From there on.\n\x1b[2J\n")

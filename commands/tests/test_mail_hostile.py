@@ -80,7 +80,7 @@ TAKEN = (
     (mail(title="=?utf-8?q?a=0d=0aBcc:_eve@example.org=0a=0ab?="), "submit", "Bug "),
     (mail(title="=?x?q?" + "=?utf-8?b?" * 3_000), "submit", "The title is cut"),
     (mail(title="\udce9t\udce9 " + "\u00e9" * 200), "submit", "The title is cut"),
-    (mail(sender="=?utf-8?q?A=0aBcc:_eve@example.org?= <ann@example.org>"), "submit", "Bug "),
+    (mail(sender="=?utf-8?q?A=0aBcc=3a_eve=40example.org?= <ann@example.org>"), "submit", "Bug "),
     (mail(sender="\u00e9" * 200 + " <ann@example.org>"), "submit", "Bug "),
     (mail(text="Package: src:Foo\nSeverity: wicked\nVersion: 1_0 x\n\nx\n"), "submit",
      "There is no severity 'wicked'; the bug is normal."),
@@ -207,8 +207,10 @@ class Silent(Case):
             self.assertIn("held", self.give(data, "submit", sender=""))
         (held,) = (self.gateway.folder / "held/new").iterdir()
         self.assertEqual(held.read_bytes(), data)
+        self.assertIn("refused", self.give(data, "submit"))
+        self.assertEqual(self.gateway.held(), [])
         status, output, errors = self.gateway.give(
-            mail(text="z" * 10_500_000), "submit", "--room=11000000", sender="")
+            mail(text="z" * 10_500_000), "submit", "--room=10450000", sender="")
         self.assertEqual((status, output, errors.count("\n")), (75, "", 1))
         self.assertIn("make room", errors)
 
