@@ -325,7 +325,8 @@ class Names(Case):
             ("foo-utils", "9", "foo", "foo/9"), ("bar", "1+b1", "bar", "bar/1+b1"))
         number = 3
         for file in (packages, index):
-            for place, (package, version, source, mark) in enumerate(wanted):
+            for place in range(len(wanted)) if file == packages else (0, 1):
+                package, version, source, mark = wanted[place]
                 number += 1
                 text = f"Package: {package}\nVersion: {version}\n\n{file}"
                 self.give(mail(text=text), "submit", f"--packages={file}")

@@ -16,7 +16,7 @@ import unittest
 import desks
 from mail_runs import DAY, MAILS, Gateway, folder, read
 
-COUNT = int(os.environ.get("MAILS", "40"))
+COUNT = int(os.environ.get("MAILS", "30"))
 SEED = int(os.environ.get("SEED", "3"))
 ADDRESSES = ("submit", "bugs", "control", "1", "2-done", "3-quiet", "4", "2-forwarded", "1-close",
              "nobody", "99", "5-submitter", "3+x", "1-maintonly", "")
