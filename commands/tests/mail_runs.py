@@ -3,6 +3,7 @@
 import mailbox
 import os
 import pathlib
+import re
 import signal
 import sqlite3
 import sys
@@ -145,6 +146,12 @@ class Gateway:
             [desks.program(), self.where, "run"], f"@show {number}\n",
             status=0 if self.count() >= number else 1)
         return dict(line.partition(": ")[::2] for line in output.split("\n"))
+
+    def pages(self):
+        """The pages of all bugs, by one run."""
+        script = "".join(f"@show {number}\n" for number in range(1, self.count() + 1))
+        output, _ = desks.run([desks.program(), self.where, "run"], script)
+        return re.split(r"^(?=Bug [0-9]+$)", output, flags=re.MULTILINE)[1:]
 
     def rows(self, query):
         """What a query of the desk's file answers."""

@@ -158,7 +158,7 @@ class Taken(Case):
                     gateway.take(data, "submit"), gateway.take(control, "control")
                 gateway.where = f"--store={gateway.store}"
                 texts = sorted(it.get_content() for it in gateway.answers().values())
-                pages.append(([gateway.page(it) for it in range(1, 6)], texts,
+                pages.append((gateway.pages(), texts,
                               gateway.rows("SELECT * FROM messages ORDER BY id")))
         self.assertEqual(pages[0], pages[1])
         self.assertEqual(pages[0], pages[2])
@@ -220,8 +220,8 @@ class Taken(Case):
             gateway.where = f"--store={gateway.store}"
             by_hand = Gateway.__new__(Gateway)
             by_hand.store, by_hand.where = store, f"--store={store}"
-            for number in range(1, gateway.count() + 1):
-                self.assertEqual(gateway.page(number), by_hand.page(number))
+            self.assertEqual(gateway.pages(), by_hand.pages())
+            self.assertEqual(len(gateway.pages()), 8)
 
 
 class Shown(Case):

@@ -139,8 +139,7 @@ class Clients(unittest.TestCase):
             subprocess.run([desks.program(), hand.where, "run"], check=False,
                            input="\n".join([*lines, ""]).encode(), stdout=subprocess.DEVNULL)
             self.assertEqual(self.gateway.count(), 8)
-            for number in range(1, 9):
-                self.assertEqual(self.gateway.page(number), hand.page(number))
+            self.assertEqual(self.gateway.pages(), hand.pages())
 
     def mutt(self):
         """A mail of mutt closes a bug, and one with two attachments is kept."""

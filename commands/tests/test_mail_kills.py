@@ -23,7 +23,7 @@ import desks
 from mail_runs import Gateway, folder, written
 
 IS_LONG = "ROUNDS" in os.environ
-ROUNDS = int(os.environ.get("ROUNDS", "12"))
+ROUNDS = int(os.environ.get("ROUNDS", "10"))
 SENDER = "Ann Maintainer <ann@example.org>"
 PAGE = 4_096
 # Three lines, each of which would do more if it acted twice.
