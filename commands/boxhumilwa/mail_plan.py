@@ -10,7 +10,6 @@ from .faults import BadWords, Fault
 from .mail_addresses import CONTROL, DONE, FORWARDED, REPORT, TEXT_LIMIT, Target, is_ours, sender_of
 from .mail_desk import MailDesk, Report
 from .mail_headers import Pseudo
-from .mail_packages import settled
 from .mail_reading import ONLY_HTML, TEXTLESS, TOO_BIG, TOO_DEEP, Mail
 from .texts import is_package_name
 
@@ -133,6 +132,18 @@ def bare_version(values: dict[str, str]) -> tuple[str, list[str]]:
     return "", [f"{word[:40]!r} is no version, and is left out."]
 
 
+def source_of(
+    desk: MailDesk, rules: Rules, package: str, version: str,
+) -> tuple[str, str, list[str]]:
+    """The package and the version that a bug gets, and what has to be told of them."""
+    if not version and not rules.packages:
+        return package, version, []
+    # Only here, since it reads packed files, and most mails name no version.
+    from .mail_packages import settled
+    known = settled(desk.program, desk.store, rules.packages, package, version)
+    return known.package, known.version, list(known.notes)
+
+
 # Plans.
 
 
@@ -158,9 +169,9 @@ def report_plan(mail: Mail, rules: Rules, desk: MailDesk) -> Plan:
         told.append(f"{mail.address} may send no commands: the lines Control were left out.")
     sender = sender_of(mail)
     test_size(pseudo, sender, lines)
-    known = settled(desk.program, desk.store, rules.packages, package, version)
-    notes += [*told, *([note] if note else []), *known.notes, *general_notes(mail, pseudo)]
-    report = Report(sender, known.package, known.version, severity, title)
+    package, version, named = source_of(desk, rules, package, version)
+    notes += [*told, *([note] if note else []), *named, *general_notes(mail, pseudo)]
+    report = Report(sender, package, version, severity, title)
     return Plan(sender, title, list(report), None, lines, notes, wants_answer(mail, pseudo))
 
 
@@ -196,8 +207,8 @@ def closing_lines(values: dict[str, str], mail: Mail, rules: Rules, desk: MailDe
     version, notes = bare_version(values)
     package = mail_headers.package_of(values)
     if version and "/" not in version and is_package_name(package):
-        known = settled(desk.program, desk.store, rules.packages, package, version)
-        version, notes = f"{known.package}/{known.version}", [*notes, *known.notes]
+        package, version, named = source_of(desk, rules, package, version)
+        version, notes = f"{package}/{version}", notes + named
     return [f"close -1 {version}".rstrip()], notes
 
 
