@@ -2,6 +2,7 @@
 
 import subprocess
 import tempfile
+from collections.abc import Collection
 
 from .desk_file import why_ended
 from .faults import BadWords, Fault
@@ -12,12 +13,18 @@ JOBS = ("init", "run", "serve")
 GOOD, BAD_WORDS = (0, 1), 2
 
 
-def outcome(program: str, words: list[str], given: str = "") -> tuple[str, int]:
-    """What a run of the program answers, and its exit status; a fault has what came before it."""
+def outcome(
+    program: str, words: list[str], given: str = "", held: Collection[int] = (),
+) -> tuple[str, int]:
+    """What a run of the program answers, and its exit status; a fault has what came before it.
+
+    The run holds these files open, so that a lock on them lasts as long as it does.
+    """
     with tempfile.TemporaryFile() as errors:
         try:
             ran = subprocess.run(
-                [program, *words], input=given.encode(), stdout=subprocess.PIPE, stderr=errors)
+                [program, *words], input=given.encode(), stdout=subprocess.PIPE, stderr=errors,
+                pass_fds=held)
         except OSError as error:
             raise Fault(f"{program}: it can't be run: {error.strerror}") from error
         text = ran.stdout.decode(errors="replace")

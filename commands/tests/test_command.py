@@ -122,7 +122,8 @@ class Answers(unittest.TestCase):
     def test_lines(self):
         """An error is one line, and each command has its help."""
         for name in COMMANDS:
-            _, errors = run([*command(name), "--nothing"], status=2)
+            # A mail system would return a mail for any status but 75.
+            _, errors = run([*command(name), "--nothing"], status=75 if name == "mail" else 2)
             self.assertRegex(errors, f"^{name}: error: [^\n]*; {name} --help says what there is\n$")
             self.assertIn("usage: ", run([*command(name), "--help"])[0])
         _, errors = run([*command("release"), program(), "--store=/none", "s=/none"], status=3)
@@ -166,6 +167,7 @@ class Package(unittest.TestCase):
                 ("send", store, program(), "--show", "1"), ("branches", log),
                 ("count", store, program(), "foo", "2.0-1"),
                 ("find", store, program(), "--at=foo/2.0-1", f"--suite=s={suite}"),
+                ("mail", f"--folder={place}/mail", store, program(), "--to=control", "--sender="),
             ):
                 python, *rest = command(name)
                 self.assertEqual(run([python, "-W", "error", *rest, *words])[1], "")
