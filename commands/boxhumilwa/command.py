@@ -21,6 +21,10 @@ from .terminal import shown
 Desk = FileDesk | ServedDesk
 DONE, REFUSED, BAD_WORDS, FAULT = 0, 1, 2, 3
 HINT = "a server may have it open: ask that one by --port=N or --socket=PATH"
+# The signals that end a command, and those of them that came: what a signal raises in a function
+# that SQLite calls, SQLite tells as a fault of its own.
+ENDING = (signal.SIGTERM, signal.SIGINT, signal.SIGHUP)
+ENDED: list[int] = []
 
 
 def tell(name: str, text: object) -> None:
@@ -153,6 +157,9 @@ def carried_out(name: str, main: Callable[[list[str]], int], words: list[str]) -
         tell(name, bad)
         return BAD_WORDS
     except Fault as fault:
+        if ENDED:
+            tell(name, "interrupted")
+            return 128 + ENDED[0]
         tell(name, f"{fault}; {HINT}" if IN_USE in str(fault) else fault)
     except MemoryError:
         tell(name, "out of memory: ask for less, or give it more")
@@ -167,7 +174,17 @@ def carried_out(name: str, main: Callable[[list[str]], int], words: list[str]) -
     return FAULT
 
 
+def end(number: int, _: object) -> NoReturn:
+    """Ends the command because of a signal, so that it removes what it has made."""
+    ENDED.append(number)
+    if number == signal.SIGINT:
+        raise KeyboardInterrupt
+    sys.exit(128 + number)
+
+
 def run(name: str, main: Callable[[list[str]], int], words: list[str]) -> int:
     """Carries out a command's work, which a signal ends, and answers the exit status."""
-    signal.signal(signal.SIGTERM, lambda *_: sys.exit(128 + signal.SIGTERM))
+    for number in ENDING:
+        if signal.getsignal(number) is not signal.SIG_IGN:
+            signal.signal(number, end)
     return carried_out(name, main, words)

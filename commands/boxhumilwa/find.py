@@ -51,7 +51,7 @@ from .listed_bugs import Desk, Question, listed, node_of
 from .page_facts import Reading, opened_pages
 from .people import maintained
 from .report import Suite, gather
-from .snapshot import private_copy
+from .snapshot import LOG, private_copy, real_path
 from .suites import read_suite, refusals
 from .terminal import Progress
 from .unseen import unplaced_numbers, unseen_of
@@ -169,17 +169,25 @@ def asked_pages(
         yield connection, wanted
 
 
+def is_readable(store: str) -> bool:
+    """Whether a desk's file and its log may be read."""
+    log = real_path(store) + LOG
+    return os.access(store, os.R_OK) and (not os.path.exists(log) or os.access(log, os.R_OK))
+
+
 @contextlib.contextmanager
 def asked_desk(
     options: argparse.Namespace,
 ) -> Iterator[tuple[sqlite3.Connection, list[Condition]]]:
     """The desk that the options name, and what its bugs have to meet."""
-    may_read = options.store is not None and os.access(options.store, os.R_OK)
+    may_read = options.store is not None and is_readable(options.store)
     if is_served(options) and not may_read:
         if options.store is not None:
             tell(NAME, f"{options.store}: it is not there or not readable; the server is asked")
         opened = asked_pages(options)
     else:
+        if options.first or options.last:
+            tell(NAME, "--first and --last are not used, since the file is read")
         opened = asked_file(options)
     with opened as (connection, wanted):
         with told_faults(options.store or str(place_of(options))):

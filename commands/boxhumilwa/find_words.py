@@ -34,8 +34,18 @@ def version_word(word: str) -> str:
     return word
 
 
+def text_word(word: str) -> str:
+    """A text, which is UTF-8."""
+    try:
+        word.encode()
+    except UnicodeEncodeError as error:
+        raise argparse.ArgumentTypeError(f"{word!r} is not UTF-8") from error
+    return word
+
+
 def title_pattern(word: str) -> str:
     """A pattern of a shell."""
+    text_word(word)
     try:
         fnmatch.fnmatchcase("", word)
     except re.error as error:
@@ -85,7 +95,8 @@ def add_texts(parser: Parser) -> None:
         ("--submitter", "bugs that this person reported"),
         ("--owner", "bugs that this person owns; - is nobody"),
     ):
-        tests.add_argument(name, action="append", default=[], metavar="NAME", help=told)
+        tests.add_argument(
+            name, action="append", default=[], type=text_word, metavar="NAME", help=told)
     tests.add_argument(
         "--maintainers", metavar="FILE",
         help="lines of a package and its maintainer, for --maintainer")

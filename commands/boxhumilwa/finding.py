@@ -37,10 +37,12 @@ def among(column: str, values: Sequence[str | int]) -> Condition:
 
 
 def any_of(conditions: Sequence[Condition]) -> Condition:
-    """That one of these conditions holds."""
-    return Condition(
-        " OR ".join(condition.text for condition in conditions),
-        tuple(value for condition in conditions for value in condition.values))
+    """That one of these conditions holds; SQLite takes no text that is nested a thousand deep."""
+    if len(conditions) == 1:
+        return conditions[0]
+    half = len(conditions) // 2
+    one, other = any_of(conditions[:half]), any_of(conditions[half:])
+    return Condition(f"({one.text}) OR ({other.text})", one.values + other.values)
 
 
 def flag(condition: str, values: Sequence[str]) -> Condition:

@@ -131,7 +131,7 @@ def row_lines(cells: list[str], widths: list[int], title_width: int | None) -> I
 
 def table_lines(headings: list[str], found: Iterable[Row], width: int | None) -> Iterator[str]:
     """A table for people: how many bugs there are, and a row for each."""
-    rows = [[*map(str, row[:-1]), safe(str(row[-1]))] for row in found]
+    rows = [[safe(str(cell)) for cell in row] for row in found]
     yield plural(len(rows), "bug")
     if rows:
         rows.insert(0, headings)

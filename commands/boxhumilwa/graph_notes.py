@@ -35,7 +35,7 @@ def differing_notes(given: Parents, store: str, sources: Iterable[str]) -> Itera
         node for node in dict.fromkeys([*given, *own])
         if (node in given, given.get(node)) != (node in own, own.get(node))]
     if differing:
-        told = ", ".join(differing[:MOST_TOLD]) + (", .." if differing[MOST_TOLD:] else "")
+        told = safe(", ".join(differing[:MOST_TOLD])) + (", .." if differing[MOST_TOLD:] else "")
         yield f"The desk's own branches differ at {plural(len(differing), 'version')}: {told}."
 
 

@@ -289,7 +289,11 @@ def private_copy(store: str) -> Iterator[str]:
     write to as well; nothing is written to the desk's own files.
     A desk that can't be copied is a Fault.
     """
-    with private_folder(tempfile.gettempdir()) as folder:
+    try:
+        parent = tempfile.gettempdir()
+    except OSError as error:
+        raise Fault("there is no folder for a copy of the desk: name one by TMPDIR") from error
+    with private_folder(parent) as folder:
         target = os.path.join(folder, "desk.db")
         copy_merged(store, target)
         yield target

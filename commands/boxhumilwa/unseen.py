@@ -34,6 +34,10 @@ WHERE archived = 0 AND closed = 0
   AND NOT EXISTS (SELECT 1 FROM marks JOIN nodes USING (source, version)
     WHERE marks.set_key = sets.set_key AND kind = 0)
 ORDER BY number"""
+# Whether marks decide at a version, as they do where an ancestor of it, or it, is marked.
+IS_DECIDED = """SELECT 1 FROM nearest WHERE set_key = :key AND source = :source
+  AND version = :version
+UNION ALL SELECT 1 FROM marks WHERE set_key = :key AND source = :source AND version = :version"""
 FOUND = """SELECT source || '/' || version FROM marks WHERE set_key = ? AND kind = 0
 ORDER BY source, version"""
 AFFECTED = "SELECT package FROM affects WHERE set_key = ? ORDER BY package"
@@ -100,26 +104,37 @@ def node_of(package: str, version: str) -> str:
     return version if source_of(version) != version else f"{package}/{version}"
 
 
-def all_unplaced(connection: sqlite3.Connection) -> Iterator[Unplaced]:
-    """The open bugs of a desk whose found marks all stand at versions that no branch has."""
+def all_unplaced(connection: sqlite3.Connection) -> Iterator[tuple[int, Unplaced]]:
+    """The open bugs of a desk whose found marks all stand at versions that no branch has.
+
+    Each has the key of what it shares with those merged with it.
+    """
     for number, severity, title, package, owner in connection.execute(UNPLACED).fetchall():
         affected = [name for (name,) in connection.execute(AFFECTED, (owner,))]
         found = tuple(node for (node,) in connection.execute(FOUND, (owner,)))
         packages = tuple(dict.fromkeys([package, *affected]))
-        yield Unplaced(number, SEVERITIES[severity], title, packages, found)
+        yield owner, Unplaced(number, SEVERITIES[severity], title, packages, found)
+
+
+def is_decided(connection: sqlite3.Connection, key: int, node: str) -> bool:
+    """Whether marks say of a version that it has a bug, or that it has not."""
+    source, _, version = node.partition("/")
+    words = {"key": key, "source": source, "version": version}
+    return connection.execute(IS_DECIDED, words).fetchone() is not None
 
 
 def unplaced_in(
-    unplaced: Iterable[Unplaced], questions: Iterable[Question],
+    connection: sqlite3.Connection, unplaced: Iterable[tuple[int, Unplaced]],
+    questions: Iterable[Question],
 ) -> dict[str, list[Unplaced]]:
-    """Those of these bugs that one of these lists has not, by package."""
+    """Those of these bugs that one of these lists has not, though no mark says so, by package."""
     asked: dict[str, list[str]] = {}
     for package, version in questions:
         asked.setdefault(package, []).append(node_of(package, version))
     missed: dict[str, list[Unplaced]] = {}
-    pairs = ((bug, package) for bug in unplaced for package in bug.packages)
-    for bug, package in pairs:
-        if set(asked.get(package, ())) - set(bug.found):
+    triples = ((key, bug, package) for key, bug in unplaced for package in bug.packages)
+    for key, bug, package in triples:
+        if not all(is_decided(connection, key, node) for node in asked.get(package, ())):
             missed.setdefault(package, []).append(bug)
     return missed
 
@@ -130,11 +145,13 @@ def unseen_of(path: str, lists: Iterable[Iterable[Question]]) -> list[Unseen]:
         unplaced = list(all_unplaced(connection))
         ordered = [sorted(questions) for questions in lists]
         return [
-            Unseen(list(uncounted(connection, questions)), unplaced_in(unplaced, questions))
+            Unseen(
+                list(uncounted(connection, questions)),
+                unplaced_in(connection, unplaced, questions))
             for questions in ordered]
 
 
 def unplaced_numbers(path: str) -> set[int]:
-    """The numbers of the open bugs of a desk's file that are found only in no branch."""
+    """The numbers of the open bugs of a desk's file that are found only in no branch's version."""
     with opened(path) as connection:
-        return {bug.number for bug in all_unplaced(connection)}
+        return {bug.number for _, bug in all_unplaced(connection)}

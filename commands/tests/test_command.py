@@ -5,6 +5,7 @@ import io
 import json
 import re
 import shutil
+import signal
 import subprocess
 import sys
 import time
@@ -14,7 +15,9 @@ from unittest import mock
 import desks
 from desks import DAY, STABLE, command, folder, make_desk, over_socket, run, served, written
 
+from boxhumilwa import command as COMMAND
 from boxhumilwa import terminal
+from boxhumilwa.faults import Fault
 
 COMMANDS = sorted(path.name for path in desks.COMMANDS.iterdir() if path.is_file())
 PACKAGE = desks.COMMANDS / "boxhumilwa"
@@ -142,6 +145,29 @@ class Answers(unittest.TestCase):
         ):
             ran = subprocess.run([*command(name), *words], capture_output=True, check=False)
             self.assertTrue(ran.stderr.decode().replace("\n", "").isprintable(), words)
+
+
+class Ends(unittest.TestCase):
+    """How a command ends."""
+
+    def test_signal(self):
+        """A signal that SQLite has made a fault of ends the command as the signal does."""
+        def main(words):
+            COMMAND.end(int(words[0]), None)
+
+        def swallowing(words):
+            try:
+                main(words)
+            except (SystemExit, KeyboardInterrupt):
+                raise Fault("user-defined function raised exception") from None
+
+        for number in COMMAND.ENDING:
+            errors = io.StringIO()
+            with mock.patch.object(COMMAND, "ENDED", []), mock.patch("sys.stderr", errors):
+                status = COMMAND.carried_out("x", swallowing, [str(int(number))])
+            self.assertEqual((status, errors.getvalue()), (128 + number, "x: interrupted\n"))
+        with mock.patch.object(COMMAND, "ENDED", []):
+            self.assertRaises(SystemExit, COMMAND.carried_out, "x", main, [str(int(signal.SIGHUP))])
 
 
 class Package(unittest.TestCase):

@@ -1,12 +1,16 @@
 """Tests that no title steers a terminal, a spreadsheet, JSON or SQL by what `find` writes."""
 
+import contextlib
 import csv
 import io
 import json
+import os
 import re
+import sqlite3
+import subprocess
 import unittest
 
-from desks import folder, make_desk
+from desks import command, folder, make_desk
 from finds import found, on_terminal
 
 # What would steer a terminal, a line, a spreadsheet, JSON or SQL.
@@ -16,7 +20,6 @@ TITLES = (
     "a,b;c\td", "*[a]?",
 )
 SPREAD = ("=", "+", "-", "@", "＝")
-
 
 
 class Hostile(unittest.TestCase):
@@ -61,6 +64,29 @@ class Hostile(unittest.TestCase):
             self.assertEqual(
                 found(self.store, "--numbers", f"--title={pattern}")[0], f"{number}\n")
         self.assertEqual(found(self.store, "--numbers", "--owner=' OR 1 = 1 --")[0], "")
+
+
+    def test_words(self):
+        """Words that are not UTF-8 are told, and many words are asked at once."""
+        for option in ("--owner", "--submitter", "--title", "--maintainer"):
+            with self.subTest(option):
+                words = [*command("find"), self.store, os.fsencode(f"{option}=") + b"\xff"]
+                ran = subprocess.run(words, capture_output=True, text=True, check=False)
+                errors = ran.stderr
+                self.assertEqual((ran.returncode, ran.stdout, errors.count("\n")), (2, "", 1))
+                self.assertIn("is not UTF-8", errors)
+        versions = [f"--at=foo/{number}" for number in range(1, 2_001)]
+        numbers = "".join(f"{number}\n" for number in range(1, len(TITLES) + 1))
+        self.assertEqual(found(self.store, "--numbers", *versions), (numbers, ""))
+        owners = [f"--owner=x{number}" for number in range(2_000)]
+        self.assertEqual(found(self.store, "--numbers", *owners), ("", ""))
+
+    def test_file(self):
+        """Words that another program put into a file steer no terminal."""
+        path = self.store.partition("=")[2]
+        with contextlib.closing(sqlite3.connect(path)) as connection, connection:
+            connection.execute("UPDATE sets SET package = 'a' || char(27) || '[31m'")
+        self.assert_steers_nothing(found(self.store)[0])
 
 
 if __name__ == "__main__":

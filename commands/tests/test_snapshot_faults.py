@@ -102,6 +102,17 @@ class Faults(Case):
         ):
             self.assert_none(*words, told="^snapshot: ", status=2)
 
+    def test_output(self):
+        """Where standard output can't be written, it is told that the copy is made."""
+        store = make_desk(self.folder, DAY)
+        words = [*command("snapshot"), f"--store={store}", self.target]
+        with open("/dev/full", "w", encoding="utf-8") as full:
+            ran = subprocess.run(
+                words, stdout=full, stderr=subprocess.PIPE, text=True, check=False)
+        self.assertEqual((ran.returncode, ran.stderr.count("\n")), (3, 1))
+        self.assertIn("the copy is made, but standard output can't be written", ran.stderr)
+        self.assertTrue(os.path.exists(self.target))
+
     def test_too_fast(self):
         """A desk that changes at each try is given up after some."""
         store = make_desk(self.folder, DAY)

@@ -113,12 +113,19 @@ def is_not_counted(page, package, node):
         and found != ["-"] and node not in found and node not in fixed)
 
 
+def ancestry(node, nodes):
+    """A version and its ancestors, by the branches of the script."""
+    source, _, version = node.partition("/")
+    return [f"{source}/{it}" for it in range(int(version), 0, -1)] if node in nodes else [node]
+
+
 def is_unplaced(page, package, node, nodes):
-    """Whether an open bug is found only at versions in no branch, of which this is none."""
+    """Whether an open bug is found only at versions in no branch, and no mark decides at this."""
     found = page["Found"].split()
     return (
         page["Archived"] == "no" and page["State"] == "open" and package in packages_of(page)
-        and found != ["-"] and not set(found) & nodes and node not in found)
+        and found != ["-"] and not set(found) & nodes
+        and not {*found, *page["Fixed"].split()} & set(ancestry(node, nodes)))
 
 
 class Unseen(unittest.TestCase):
@@ -291,7 +298,7 @@ class RandomDesks(Unseen):
         """Compares `find --unseen` with the pages: of all lists, and of one."""
         self.assertEqual(self.found(store), [
             number for number, page in pages.items()
-            if is_unplaced(page, page["Package"], "none", nodes)])
+            if is_unplaced(page, page["Package"], "none/0", nodes)])
         source, package = chance.choice(PACKAGES), chance.choice(PACKAGES)
         version = chance.choice(VERSIONS)
         node = f"{source}/{version}"
