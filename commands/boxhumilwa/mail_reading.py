@@ -121,8 +121,9 @@ def raw_text(value: object) -> str:
 
 
 def is_address(word: str) -> bool:
-    """Whether a word is an address that mail can be sent to."""
-    return len(word) <= LONGEST_ADDRESS and ADDRESS.fullmatch(word) is not None
+    """Whether a word is an address that mail can be sent to, and that no reader decodes."""
+    is_short = len(word) <= LONGEST_ADDRESS and "=?" not in word
+    return is_short and ADDRESS.fullmatch(word) is not None
 
 
 def addresses(value: object) -> list[tuple[str, str]]:

@@ -3,6 +3,7 @@
 Each step does nothing where it was done before, so a delivery that ended anywhere is just repeated.
 """
 
+import functools
 import hashlib
 import itertools
 import json
@@ -96,8 +97,9 @@ def test_size(settings: Settings, name: str, size: int) -> None:
 def write_answer(delivery: Delivery, outcome: Outcome) -> None:
     """Puts the answer to a mail into the folder of answers."""
     out = os.path.join(delivery.settings.folder, "out")
-    data = mail_answers.answer(
-        delivery.mail, delivery.to()[0], delivery.target, delivery.settings.domain, outcome)
+    build = functools.partial(
+        mail_answers.answer, delivery.to()[0], delivery.target, delivery.settings.domain)
+    data = mail_answers.built(build, delivery.mail, outcome)
     test_size(delivery.settings, "out", mail_folders.size_of(out) + len(data))
     mail_folders.put(out, f"{delivery.key}.eml", data)
 
@@ -198,8 +200,9 @@ def keep_all(delivery: Delivery, plan: Plan, outcome: Outcome) -> None:
         bugs.insert(0, outcome.number)
     kept = [(f"{delivery.mail.identity[:KEY_LETTERS]}.mail", delivery.data)]
     if outcome.transcript and delivery.target:
-        kept.append((f"{delivery.key}.transcript", mail_answers.transcript(
-            delivery.mail, plan.sender, delivery.target, outcome)))
+        build = functools.partial(mail_answers.transcript, plan.sender, delivery.target)
+        kept.append((f"{delivery.key}.transcript", mail_answers.built(
+            build, delivery.mail, outcome)))
     delivery.journal.keep(bugs, [(name, len(data)) for name, data in kept])
     for name, data in kept:
         other = ""
