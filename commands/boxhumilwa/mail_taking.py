@@ -101,16 +101,21 @@ def write_answer(delivery: Delivery, outcome: Outcome) -> None:
         mail_answers.answer, delivery.to()[0], delivery.target, delivery.settings.domain)
     data = mail_answers.built(build, delivery.mail, outcome)
     test_size(delivery.settings, "out", mail_folders.size_of(out) + len(data))
+    delivery.journal.note_answer(delivery.to()[0].lower(), time.time())
     mail_folders.put(out, f"{delivery.key}.eml", data)
 
 
 def may_answer(delivery: Delivery, row: Row) -> str:
     """Why a mail gets no answer; nothing where it gets one."""
-    _, reason = delivery.to()
+    address, reason = delivery.to()
     if reason:
         return reason
     count = delivery.journal.count_of(row.sender, row.time - HOUR, row.time)
-    return f"its sender sent {count} mails in an hour" if count > MOST_ANSWERED else ""
+    if count > MOST_ANSWERED:
+        return f"its sender sent {count} mails in an hour"
+    now = time.time()
+    count = delivery.journal.answers_of(address.lower(), now - HOUR, now)
+    return f"its sender got {count} answers in an hour" if count >= MOST_ANSWERED else ""
 
 
 def within(pieces: Iterable[bytes], settings: Settings, size: int) -> Iterator[bytes]:

@@ -1,7 +1,9 @@
 """Tests of `mail` over what one mail could do to others: to its answer, and to later mails."""
 
+import contextlib
 import email
 import email.policy
+import sqlite3
 import unittest
 
 from boxhumilwa import mail_answers
@@ -94,6 +96,41 @@ class Headers(Case):
         status, output, errors = self.gateway.give(data, "submit", begin=begin)
         self.assertEqual((status, output, errors), (0, "taken: bug 4\n", ""))
         self.assertEqual((self.gateway.answer()["to"], self.gateway.said(4)), (ANN, (1, 1)))
+
+
+class Answers(Case):
+    """How many answers one sender gets."""
+
+    def noted(self, script):
+        """Changes the journal."""
+        with contextlib.closing(sqlite3.connect(self.gateway.folder / "journal.db")) as journal:
+            journal.executescript(script)
+
+    def test_again(self):
+        """A refused mail that comes again is answered 50 times in an hour, and then held."""
+        data = b"From: auto@example.org\nContent-Type: text/html\n\n<p>I am away"
+        self.assertIn("refused", self.gateway.take(data, "control"))
+        self.noted("INSERT INTO answers SELECT sender, time FROM answers, json_each("
+                   f"'{[0] * 48}'); INSERT INTO answers SELECT sender, time - 3600 FROM answers")
+        self.assertIn("refused", self.gateway.take(data, "control"))
+        self.assertEqual(self.gateway.answer()["to"], ANN)
+        for _ in range(2):
+            self.assertIn("held: ", self.gateway.take(data, "control"))
+        self.assertEqual((self.gateway.answers(), len(self.gateway.held())), ({}, 1))
+        self.assertIn("refused", self.gateway.take(data, "control", sender="bob@example.org"))
+        self.assertEqual(self.gateway.answer()["to"], "bob@example.org")
+        self.noted("UPDATE answers SET time = time - 3600")
+        self.assertIn("refused", self.gateway.take(data, "control"))
+        self.assertEqual(self.gateway.held(), [])
+
+    def test_older_journal(self):
+        """A journal in which no answers are counted yet is gone on with."""
+        data = written(SENDER, "x", GOOD, "m1")
+        self.gateway.take(data, "submit")
+        self.noted("DROP TABLE answers; PRAGMA user_version = 1")
+        self.assertEqual(self.gateway.take(data, "submit"), "taken before")
+        self.assertEqual(self.gateway.take(written(SENDER, "x", "y", "m2"), "1"), "taken: bug 1")
+        self.assertEqual((len(self.gateway.answers()), self.gateway.count()), (2, 4))
 
 
 if __name__ == "__main__":
