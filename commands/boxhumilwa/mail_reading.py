@@ -37,7 +37,7 @@ class Mail(NamedTuple):
     """What is read of a mail.
 
     `wrong` is empty where it has a text, `notes` tell what was replaced, and `identity` is a hash
-    of its Message-ID, its From and its body.
+    of its Message-ID (its Subject and Date where it has none), its From and its body.
     """
 
     identity: str
@@ -200,6 +200,11 @@ def text_of(message: email.message.Message) -> tuple[str, str, str]:
 # The record.
 
 
+def own_name(message: email.message.Message) -> str:
+    """What stands for the Message-ID of a mail that has none."""
+    return json.dumps([" ".join(raw_text(message.get(it)).split()) for it in ("subject", "date")])
+
+
 def identity_of(message_id: str, sender: str, body: bytes) -> str:
     """A hash of a mail's Message-ID, of its From, and of its body, whatever ends its lines."""
     digest = hashlib.sha256(body.replace(b"\r\n", b"\n").rstrip(b"\n")).hexdigest()
@@ -258,7 +263,8 @@ def read_mail(data: bytes) -> Mail:
     path = message.get("return-path")
     names = ("auto-submitted", "precedence", "x-boxhumilwa", "x-debbugs-no-ack")
     return Mail(
-        identity_of(message_id, raw_text(message.get("from")), body_of(data)),
+        identity_of(
+            message_id or own_name(message), raw_text(message.get("from")), body_of(data)),
         name, address, header_text(message.get("subject")),
         tuple(address for _, address in addresses(message.get("to"))),
         message_id, (earlier + ((message_id,) if message_id else ()))[-20:],

@@ -133,5 +133,23 @@ class Answers(Case):
         self.assertEqual((len(self.gateway.answers()), self.gateway.count()), (2, 4))
 
 
+class Read(Case):
+    """What a mail is read as."""
+
+    def test_without_message_id(self):
+        """Mails of another Subject or Date are others, and the same one comes once."""
+        given = [written(SENDER, title, GOOD, "", *headers) for title, headers in (
+            ("crash at start", ()), ("crash at end", ()), ("crash at end", ("Date: Mon",)),
+            ("crash at end", ("Date: Tue",)))]
+        for place, data in enumerate(given, 4):
+            self.assertEqual(self.gateway.take(data, "submit"), f"taken: bug {place}")
+        folded = given[0].replace(b"crash at", b"crash\n at").replace(b"\n", b"\r\n")
+        for data in (*given, folded):
+            self.assertEqual(self.gateway.take(data, "submit"), "taken before")
+        for date in "12":
+            self.gateway.take(written(SENDER, "ping", "Any news?", "", f"Date: {date}"), "1")
+        self.assertEqual(self.gateway.said(1), (2, 0))
+
+
 if __name__ == "__main__":
     unittest.main()
