@@ -28,6 +28,8 @@ IDENTITY = re.compile("<[!-;=?-~]{1,240}>")
 # Codecs of Python that are no charsets of mails, and may be slow or read escapes.
 NO_CHARSETS = ("idna", "punycode", "unicode_escape", "unicode-escape", "raw_unicode_escape",
                "raw-unicode-escape", "undefined")
+# An encoded word, or a backslash outside of one.
+BACKSLASH = re.compile(r"(=\?[^?]*\?[qb]\?.*?\?=)|\\", re.IGNORECASE)
 CONTROL = re.compile("[\x00-\x1f\x7f]+")
 # What went wrong with the text of a mail.
 TOO_BIG, TOO_DEEP, ONLY_HTML, TEXTLESS = "too big", "too deep", "only HTML", "no text"
@@ -103,11 +105,15 @@ def header_text(value: object) -> str:
     """The text of a header, whatever stands in it, on one line."""
     raw = raw_text(value)
     try:
-        pieces = email.header.decode_header(raw)
+        # Plain pieces beside encoded words come back with escapes: a backslash of theirs is one too.
+        pieces = email.header.decode_header(
+            BACKSLASH.sub(lambda found: found[1] or r"\u005c", raw))
     except (email.errors.HeaderParseError, ValueError):
         return plain(raw)
     return plain("".join(
-        piece if isinstance(piece, str) else decoded(piece, charset or "")[0]
+        raw if isinstance(piece, str)
+        else piece.decode("raw-unicode-escape", "replace") if charset is None
+        else decoded(piece, charset)[0]
         for piece, charset in pieces))
 
 
@@ -187,12 +193,11 @@ def is_attached(part: email.message.Message) -> bool:
 def text_of(message: email.message.Message) -> tuple[str, str, str]:
     """The text of a mail, what is wrong with it, and what has to be told of it."""
     parts = own_parts(message)
-    texts = [part for part in parts if part.get_content_type() == "text/plain"]
-    said = [part for part in texts if not is_attached(part)] or texts
-    if said:
-        text, note = part_text(said[0])
-        if text.strip():
-            return text, "", note
+    for part in parts:
+        if part.get_content_type() == "text/plain" and not is_attached(part):
+            text, note = part_text(part)
+            if text.strip():
+                return text, "", note
     is_html = any(part.get_content_type() == "text/html" for part in parts)
     return "", ONLY_HTML if is_html else TEXTLESS, ""
 

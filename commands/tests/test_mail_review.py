@@ -6,7 +6,7 @@ import email.policy
 import sqlite3
 import unittest
 
-from boxhumilwa import mail_answers
+from boxhumilwa import mail_answers, mail_reading
 from mail_runs import ANN, Gateway, folder, written
 
 SENDER = "Ann Maintainer <ann@example.org>"
@@ -149,6 +149,45 @@ class Read(Case):
         for date in "12":
             self.gateway.take(written(SENDER, "ping", "Any news?", "", f"Date: {date}"), "1")
         self.assertEqual(self.gateway.said(1), (2, 0))
+
+    def test_parts(self):
+        """An attachment is not carried out, and an empty part hides no other one."""
+        part = "Content-Type: text/plain\n{}\n{}\n--b\n"
+        attached = "Content-Disposition: ATTACHMENT; filename=x\n"
+        head = "Content-Type: multipart/mixed; boundary=b"
+        given = (
+            (part.format(attached, "severity 1 minor"), "refused", "grave"),
+            (part.format("", " \n") + part.format(attached, "severity 1 minor"), "refused",
+             "grave"),
+            (part.format("", " \n") + part.format("", "severity 1 normal"), "taken", "normal"),
+            (part.format(attached, "severity 1 minor") + part.format("", "severity 1 serious"),
+             "taken", "serious"),
+        )
+        for place, (text, told, severity) in enumerate(given):
+            data = written(SENDER, "x", f"--b\n{text}", f"m{place}", head)
+            self.assertTrue(self.gateway.take(data, "control").startswith(told), text)
+            self.assertEqual(self.gateway.page(1)["Severity"], severity, text)
+        data = b"From: a@example.org\n" + attached.encode() + b"\nseverity 1 minor\n"
+        self.assertIn("refused", self.gateway.take(data, "control"))
+
+    def test_raw_beside_encoded(self):
+        """Bytes that are UTF-8 stay what they are beside an encoded word, and a backslash too."""
+        for raw, wanted in (
+            ("\u00c5ngstr\u00f6m =?utf-8?q?=C3=A9t=C3=A9?=", "\u00c5ngstr\u00f6m \u00e9t\u00e9"),
+            ("\u20ac \U0001f600 =?utf-8?q?a?= \u4e2d", "\u20ac \U0001f600 a \u4e2d"),
+            (r"C:\users\u0041 =?utf-8?q?a\b?= \N{x} \U99", r"C:\users\u0041 a\b \N{x} \U99"),
+            (r"C:\users\u0041 \U99", r"C:\users\u0041 \U99"),
+            ("=?a\n \\u?q?x?= =?utf-8?q?y?= \\u12", None),
+            ("=??q?x?= \u00e9", "x \u00e9"),
+        ):
+            found = mail_reading.header_text(
+                raw.encode().decode("ascii", errors="surrogateescape"))
+            self.assertTrue(found == wanted if wanted else found.encode(), (raw, found))
+        sender = "J\u00f6rg =?utf-8?q?=C3=A9?= <ann@example.org>"
+        self.gateway.take(written(sender, "\u00e9 =?utf-8?q?=C3=A9?=", GOOD), "submit")
+        page = self.gateway.page(4)
+        self.assertEqual((page["Title"], page["Submitter"]),
+                         ("\u00e9 \u00e9", "J\u00f6rg \u00e9 <ann@example.org>"))
 
 
 if __name__ == "__main__":
