@@ -6,6 +6,7 @@ import email.policy
 import sqlite3
 import unittest
 
+import desks
 from boxhumilwa import mail_answers, mail_reading
 from mail_runs import ANN, Gateway, folder, written
 
@@ -188,6 +189,31 @@ class Read(Case):
         page = self.gateway.page(4)
         self.assertEqual((page["Title"], page["Submitter"]),
                          ("\u00e9 \u00e9", "J\u00f6rg \u00e9 <ann@example.org>"))
+
+
+class Versions(Case):
+    """Versions as senders write them."""
+
+    def test_report(self):
+        """A version may have its package before it."""
+        self.gateway.take(written(SENDER, "x", "Package: Foo\nVersion: foo/1.0-2\n\nx"), "submit")
+        self.assertEqual(self.gateway.page(4)["Found"], "foo/1.0-2")
+        self.assertTrue(self.gateway.answer().get_content().startswith(
+            "Bug 4 is reported in foo.\n\nThis answers"))
+
+    def test_done(self):
+        """A version that closes is one of the bug's package, where the mail names no other."""
+        packages = desks.written(self.gateway.place, "packages", "foo-utils 1:3 foo 2.0-1\n")
+        for number, text, fixed, told in (
+            (1, "Version: 1.0-2+b1", "foo/1.0-2", "is of the source foo 1.0-2."),
+            (2, "Version: 9", "foo/9", "nearest that is known is 2.0-1."),
+            (3, "Version: foo-utils/1:3", "foo/2.0-1", "is of the source foo 2.0-1."),
+        ):
+            self.gateway.take(written(SENDER, "x", text, f"m{number}"), f"{number}-done",
+                              f"--packages={packages}")
+            page = self.gateway.page(number)
+            self.assertEqual((page["State"], page["Fixed"]), ("done", fixed))
+            self.assertIn(told, self.gateway.answer().get_content().replace("\n", " "))
 
 
 if __name__ == "__main__":
