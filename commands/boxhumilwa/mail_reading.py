@@ -24,6 +24,10 @@ ADDRESS = re.compile(
     r"[A-Za-z0-9!#$%&'*+/=?^_`{|}~-]+(?:\.[A-Za-z0-9!#$%&'*+/=?^_`{|}~-]+)*"
     r"@[A-Za-z0-9](?:[A-Za-z0-9-]*[A-Za-z0-9])?(?:\.[A-Za-z0-9](?:[A-Za-z0-9-]*[A-Za-z0-9])?)*")
 LONGEST_ADDRESS = 200
+# The headers that answers depend on, and how many of each are looked at.
+ASKED = ("auto-submitted", "precedence", "list-id", "x-auto-response-suppress", "x-boxhumilwa",
+         "x-debbugs-no-ack")
+MOST_SAME = 100
 IDENTITY = re.compile("<[!-;=?-~]{1,240}>")
 # Codecs of Python that are no charsets of mails, and may be slow or read escapes.
 NO_CHARSETS = ("idna", "punycode", "unicode_escape", "unicode-escape", "raw_unicode_escape",
@@ -105,7 +109,7 @@ def header_text(value: object) -> str:
     """The text of a header, whatever stands in it, on one line."""
     raw = raw_text(value)
     try:
-        # Plain pieces beside encoded words come back with escapes: a backslash of theirs is one too.
+        # Plain pieces beside encoded words come back with escapes, so a backslash goes in as one.
         pieces = email.header.decode_header(
             BACKSLASH.sub(lambda found: found[1] or r"\u005c", raw))
     except (email.errors.HeaderParseError, ValueError):
@@ -257,6 +261,11 @@ def parsed(data: bytes) -> tuple[email.message.Message, str, str, str]:
     return email.message_from_bytes(head, policy=POLICY), "", wrong, ""
 
 
+def headers_of(message: email.message.Message, name: str) -> str:
+    """The first headers of a name, each on a line and in lower case."""
+    return "\n".join(header_text(it).lower() for it in message.get_all(name, [])[:MOST_SAME])
+
+
 def read_mail(data: bytes) -> Mail:
     """The record of a mail."""
     data = re.sub(rb"\A(?:>?From [^\n]*\n)+", b"", data)
@@ -266,7 +275,6 @@ def read_mail(data: bytes) -> Mail:
     message_id = (identities(message.get("message-id")) or ("",))[0]
     earlier = identities(message.get("references")) or identities(message.get("in-reply-to"))
     path = message.get("return-path")
-    names = ("auto-submitted", "precedence", "x-boxhumilwa", "x-debbugs-no-ack")
     return Mail(
         identity_of(
             message_id or own_name(message), raw_text(message.get("from")), body_of(data)),
@@ -274,6 +282,6 @@ def read_mail(data: bytes) -> Mail:
         tuple(address for _, address in addresses(message.get("to"))),
         message_id, (earlier + ((message_id,) if message_id else ()))[-20:],
         None if path is None else raw_text(path).strip().strip("<>"),
-        {it: header_text(message.get(it)).lower() for it in names if it in message},
+        {it: headers_of(message, it) for it in ASKED if it in message},
         text, wrong, (note,) if note else ())
 

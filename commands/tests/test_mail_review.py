@@ -124,6 +124,26 @@ class Answers(Case):
         self.assertIn("refused", self.gateway.take(data, "control"))
         self.assertEqual(self.gateway.held(), [])
 
+    def test_machines(self):
+        """What no person sent gets no answer, by its sender or by any of its headers."""
+        senders = ("owner-list", "list-request", "list-bounces", "List-Bounce", "list-owner",
+                   "MAILER-DAEMON", "list-bounces+ann=example.org")
+        headers = ("List-Id: <a.b>", "X-Auto-Response-Suppress: All", "Precedence: bulk (x)",
+                   "Precedence: auto_reply", "Precedence: Junk; x",
+                   "Precedence: x\nPrecedence: list", "Auto-Submitted: No, yes",
+                   "Auto-Submitted: no\nAuto-Submitted: auto-replied", "Auto-Submitted: auto-generated (x)")
+        for place, sender in enumerate(senders):
+            data = written(SENDER, "x", "x", f"s{place}")
+            told = self.gateway.take(data, "submit", sender=f"{sender}@example.org")
+            self.assertIn("held: ", told, sender)
+        for place, header in enumerate(headers):
+            told = self.gateway.take(written(SENDER, "x", "x", f"h{place}", header), "submit")
+            self.assertEqual(told.startswith("held: "), "No, yes" not in header, header)
+        for place, sender in enumerate(("owner", "request", "bouncer-x", "no-requests")):
+            data = written(SENDER, "x", "x", f"p{place}", "Auto-Submitted: no (by hand)")
+            told = self.gateway.take(data, "submit", sender=f"{sender}@example.org")
+            self.assertIn("refused: ", told, sender)
+
     def test_older_journal(self):
         """A journal in which no answers are counted yet is gone on with."""
         data = written(SENDER, "x", GOOD, "m1")
@@ -170,6 +190,15 @@ class Read(Case):
             self.assertEqual(self.gateway.page(1)["Severity"], severity, text)
         data = b"From: a@example.org\n" + attached.encode() + b"\nseverity 1 minor\n"
         self.assertIn("refused", self.gateway.take(data, "control"))
+
+    def test_blank_lines(self):
+        """A byte order mark and blank lines before the first line hide it not."""
+        signed = "-----BEGIN PGP SIGNED MESSAGE-----\nHash: SHA512\n\n"
+        for place, start in enumerate(("\ufeff", "\ufeff\n", " \n\t\n\n", "\n\ufeff", "\r\n \r\n",
+                                       f"\ufeff \n{signed} \n"), 4):
+            data = written(SENDER, "x", f"{start}{GOOD}", f"b{place}",
+                           "Content-Type: text/plain; charset=utf-8")
+            self.assertEqual(self.gateway.take(data, "submit"), f"taken: bug {place}", start)
 
     def test_raw_beside_encoded(self):
         """Bytes that are UTF-8 stay what they are beside an encoded word, and a backslash too."""
