@@ -15,6 +15,8 @@ import json
 import re
 from typing import NamedTuple
 
+from .mail_flowed import unflowed
+
 LARGEST = 10_000_000
 LONGEST_HEADER = 10_000
 # How many parts may hold parts, and that times the lines, each of which is tried for each end.
@@ -181,12 +183,19 @@ def part_bytes(part: email.message.Message) -> bytes:
     return payload if isinstance(payload, bytes) else b""
 
 
+def parameter(part: email.message.Message, name: str) -> str:
+    """A parameter of the type of a part."""
+    value = part.get_param(name, "")
+    return str(value[2] if isinstance(value, tuple) else value)
+
+
 def part_text(part: email.message.Message) -> tuple[str, str]:
     """The text of a part, with line feeds alone, and what has to be told of it."""
-    charset = part.get_param("charset", "")
-    word = charset[2] if isinstance(charset, tuple) else charset
-    text, note = decoded(part_bytes(part), str(word))
-    return text.replace("\r\n", "\n"), note
+    text, note = decoded(part_bytes(part), parameter(part, "charset"))
+    text = text.replace("\r\n", "\n")
+    if parameter(part, "format").lower() == "flowed":
+        text = unflowed(text, parameter(part, "delsp").lower() == "yes")
+    return text, note
 
 
 def is_attached(part: email.message.Message) -> bool:

@@ -7,7 +7,7 @@ import sqlite3
 import unittest
 
 import desks
-from boxhumilwa import mail_answers, mail_reading
+from boxhumilwa import mail_answers, mail_flowed, mail_reading
 from mail_runs import ANN, Gateway, folder, written
 
 SENDER = "Ann Maintainer <ann@example.org>"
@@ -131,7 +131,8 @@ class Answers(Case):
         headers = ("List-Id: <a.b>", "X-Auto-Response-Suppress: All", "Precedence: bulk (x)",
                    "Precedence: auto_reply", "Precedence: Junk; x",
                    "Precedence: x\nPrecedence: list", "Auto-Submitted: No, yes",
-                   "Auto-Submitted: no\nAuto-Submitted: auto-replied", "Auto-Submitted: auto-generated (x)")
+                   "Auto-Submitted: no\nAuto-Submitted: auto-replied",
+                   "Auto-Submitted: auto-generated (x)")
         for place, sender in enumerate(senders):
             data = written(SENDER, "x", "x", f"s{place}")
             told = self.gateway.take(data, "submit", sender=f"{sender}@example.org")
@@ -199,6 +200,24 @@ class Read(Case):
             data = written(SENDER, "x", f"{start}{GOOD}", f"b{place}",
                            "Content-Type: text/plain; charset=utf-8")
             self.assertEqual(self.gateway.take(data, "submit"), f"taken: bug {place}", start)
+
+    def test_flowed(self):
+        """A command that a client has broken over lines is one again."""
+        for text, delsp, wanted in (
+            ("a \nb \n c\nd \n\ne", False, "a b c\nd \ne"), ("a  \nb", True, "a b"),
+            ("a \n> q \n> r\n  b \n-- \nx", False, "a \n> q \n> r\n b \n-- \nx"),
+            (" >x \n From y", False, ">x From y"), ("", False, ""), ("\n\n", True, "\n\n"),
+        ):
+            self.assertEqual(mail_flowed.unflowed(text, delsp), wanted, text)
+        head = "Content-Type: text/plain; charset=us-ascii; format={}; delsp={}"
+        for place, (shape, delsp, title) in enumerate((
+            ("Flowed", "no", "loses both lines"), ("flowed", "Yes", "loses bothlines"),
+            ("fixed", "no", "loses both"),
+        )):
+            data = written(SENDER, "x", "retitle 1 loses both \nlines\n", f"f{place}",
+                           head.format(shape, delsp))
+            self.gateway.take(data, "control")
+            self.assertEqual(self.gateway.page(1)["Title"], title)
 
     def test_raw_beside_encoded(self):
         """Bytes that are UTF-8 stay what they are beside an encoded word, and a backslash too."""
