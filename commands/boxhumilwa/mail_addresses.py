@@ -11,7 +11,9 @@ DONE, FORWARDED = "done", "forwarded"
 SUFFIXES = ("", "quiet", "maintonly", "submitter", DONE, "close", FORWARDED)
 NUMBERED = re.compile("([1-9][0-9]{0,8})(?:-([a-z]+))?")
 TEXT_LIMIT = 200
-NOBODY = ("", "<>", "mailer-daemon")
+# What stands before the @ of senders that are no persons.
+MACHINES = re.compile("owner-.*|.*-(?:request|bounces?|owner)")
+FIRST_WORD = re.compile("[^ ,;(]*")
 
 
 class Target(NamedTuple):
@@ -64,8 +66,11 @@ def answered_to(sender: str | None, mail: Mail, domain: str) -> tuple[str, str]:
     if envelope is None:
         return "", "nobody said who the envelope's sender is"
     address = envelope.strip().strip("<>")
-    if address.lower().partition("@")[0] in NOBODY:
+    local = address.lower().rpartition("@")[0] or address.lower()
+    if not local or local == "mailer-daemon":
         return "", "its return path is empty"
+    if MACHINES.fullmatch(local.partition("+")[0]):
+        return "", "its return path is a machine's"
     if not is_address(address):
         return "", "its return path is no address"
     if is_ours(address, domain):
@@ -77,8 +82,19 @@ def unanswered(mail: Mail) -> str:
     """Why a mail gets no answer, by its headers; nothing where it may get one."""
     if "x-boxhumilwa" in mail.headers:
         return "it is an answer of a desk"
-    if mail.headers.get("auto-submitted", "no").partition(";")[0].strip() not in ("", "no"):
-        return "no person sent it: Auto-Submitted"
-    if mail.headers.get("precedence", "") in ("bulk", "junk", "list"):
-        return "no person sent it: Precedence"
+    for value in mail.headers.get("auto-submitted", "").split("\n"):
+        if first_word(value) not in ("", "no"):
+            return "no person sent it: Auto-Submitted"
+    for value in mail.headers.get("precedence", "").split("\n"):
+        if first_word(value) in ("bulk", "junk", "list", "auto_reply"):
+            return "no person sent it: Precedence"
+    for name in ("List-Id", "X-Auto-Response-Suppress"):
+        if name.lower() in mail.headers:
+            return f"no person sent it: {name}"
     return ""
+
+
+def first_word(value: str) -> str:
+    """The first word of a header."""
+    found = FIRST_WORD.match(value)
+    return found[0] if found else ""

@@ -1,23 +1,27 @@
 """Mails that the gateway writes: answers to senders, and the transcripts that are kept with bugs.
 
-All are written by the standard library, so that nothing which a mail says becomes a header.
+What a mail says is in them as it is read, and is never read a second time: nothing of it becomes a
+header.
 """
 
+import email.header
 import email.message
 import email.policy
 import email.utils
 import re
-from collections.abc import Iterable
+from collections.abc import Callable, Iterable
 from typing import NamedTuple
 
 from .mail_addresses import CONTROL, Target
-from .mail_reading import Mail, is_address, plain
+from .mail_reading import Mail, is_address, plain, well_formed
 
 LONGEST_SUBJECT, LONGEST_LINE = 200, 900
 REPEATED = re.compile(r"^(?:(?:re|fwd|bug ?#[0-9]+):\s*)+", re.IGNORECASE)
 MARK = "X-Boxhumilwa"
 # Answers are written with 8 bits nowhere, so that any server takes them.
 POLICY = email.policy.default.clone(cte_type="7bit")
+# The other policy reads encoded words in a header that is set, and what they hold can end it.
+HEADERS = email.policy.compat32.clone(cte_type="7bit")
 
 
 class Outcome(NamedTuple):
@@ -61,14 +65,44 @@ def pieces(line: str) -> Iterable[str]:
     return [line[at:at + LONGEST_LINE] for at in range(0, len(line), LONGEST_LINE)] or [""]
 
 
+def header_value(name: str, value: str) -> str | email.header.Header:
+    """The value of a header, in which nothing but a subject is more than plain words."""
+    value = plain(value)
+    if name != "Subject":
+        return " ".join(word for word in value.split() if is_plain(word))
+    return value if is_plain(value) else email.header.Header(value, "utf-8", header_name=name)
+
+
+def is_plain(value: str) -> bool:
+    """Whether a value is ASCII that no reader decodes."""
+    return value.isascii() and "=?" not in value
+
+
 def message(text: str, headers: dict[str, str]) -> bytes:
     """The bytes of a mail."""
-    written = email.message.EmailMessage(policy=POLICY)
-    for name, value in headers.items():
+    body = email.message.EmailMessage(policy=POLICY)
+    body.set_content(well_formed(text))
+    written = email.message.Message(policy=HEADERS)
+    for name, text in headers.items():
+        value = header_value(name, text)
         if value:
             written[name] = value
-    written.set_content(text)
+    for name, value in body.items():
+        written[name] = str(value)
+    written.set_payload(body.get_payload())
     return written.as_bytes()
+
+
+def built(build: Callable[[Mail, Outcome], bytes], mail: Mail, outcome: Outcome) -> bytes:
+    """A mail that is written, without what its headers take from another where that is at fault.
+
+    Else the other would be tried again for ever, after all was done that it asks.
+    """
+    try:
+        return build(mail, outcome)
+    except Exception:
+        bare = mail._replace(title="", message_id="", references=())
+        return build(bare, outcome._replace(title=""))
 
 
 def thread(mail: Mail) -> dict[str, str]:
@@ -76,7 +110,7 @@ def thread(mail: Mail) -> dict[str, str]:
     return {"In-Reply-To": mail.message_id, "References": " ".join(mail.references)}
 
 
-def answer(mail: Mail, to: str, target: Target | None, domain: str, outcome: Outcome) -> bytes:
+def answer(to: str, target: Target | None, domain: str, mail: Mail, outcome: Outcome) -> bytes:
     """The answer to a mail; who sends it gives it an empty return path."""
     place = domain_of(target, domain)
     own = f"{outcome.number or CONTROL}@{place}"
@@ -87,7 +121,7 @@ def answer(mail: Mail, to: str, target: Target | None, domain: str, outcome: Out
         "Auto-Submitted": "auto-replied", "Precedence": "bulk", MARK: "answer"})
 
 
-def transcript(mail: Mail, sender: str, target: Target, outcome: Outcome) -> bytes:
+def transcript(sender: str, target: Target, mail: Mail, outcome: Outcome) -> bytes:
     """The mail that is kept with each bug which a message has changed: who did what, and when."""
     place = domain_of(target, "")
     return message(

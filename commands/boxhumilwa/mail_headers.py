@@ -21,6 +21,7 @@ QUIET = ("followup-for", "justification", "x-debbugs-cc", "x-debbugs-no-ack")
 MOST_CONTROL, MOST_BYTES = 100, 65_536
 STOPS = ("quit", "stop", "thank", "thanks", "thankyou", "thank you", "--")
 SIGNED = re.compile(r"\n*-----BEGIN PGP SIGNED MESSAGE-----[ \t]*\n(?:[^\n]+\n)*\n")
+BLANK = re.compile("\\A(?:\ufeff|[ \t\r]*\n)+")
 NO_TEXT = re.compile("[\x00-\x08\x0a-\x1f\x7f]")
 REPLACEMENT = "\N{REPLACEMENT CHARACTER}"
 WORD = re.compile("[^ \t]+")
@@ -47,8 +48,8 @@ def unsigned(text: str) -> str:
 
 
 def text_lines(text: str) -> list[str]:
-    """The lines of a text, without empty ones before the first."""
-    return unsigned(text).lstrip("\ufeff").lstrip("\n").split("\n")
+    """The lines of a text, without blank ones and byte order marks before the first."""
+    return BLANK.sub("", unsigned(BLANK.sub("", text))).split("\n")
 
 
 def written(lines: Iterable[str]) -> Iterator[tuple[str, str]]:

@@ -25,16 +25,18 @@ CREATE TABLE IF NOT EXISTS mails (
 CREATE INDEX IF NOT EXISTS mails_by_sender ON mails (sender, time);
 CREATE INDEX IF NOT EXISTS mails_by_state ON mails (state) WHERE state <> 'taken';
 CREATE INDEX IF NOT EXISTS mails_by_bug ON mails (bug);
+CREATE TABLE IF NOT EXISTS answers (sender TEXT NOT NULL, time REAL NOT NULL) STRICT;
+CREATE INDEX IF NOT EXISTS answers_by_sender ON answers (sender, time);
 CREATE TABLE IF NOT EXISTS kept (
   bug INTEGER NOT NULL, name TEXT NOT NULL, bytes INTEGER NOT NULL,
   PRIMARY KEY (bug, name)) STRICT, WITHOUT ROWID;
 CREATE TABLE IF NOT EXISTS total (
   id INTEGER PRIMARY KEY CHECK (id = 1), bytes INTEGER NOT NULL) STRICT;
 INSERT OR IGNORE INTO total VALUES (1, 0);
-PRAGMA user_version = 1;
+PRAGMA user_version = 2;
 COMMIT;
 """
-VERSION = 1
+VERSION = 2
 COLUMNS = "key, state, time, recipient, sender, next, bug, plan"
 SECONDS = 10
 PAUSE = 0.02
@@ -96,7 +98,7 @@ class Journal:
             self.connection.execute("PRAGMA journal_mode = TRUNCATE")
             self.connection.execute("PRAGMA synchronous = FULL")
             (version,) = self.connection.execute("PRAGMA user_version").fetchone()
-            if version == 0:
+            if version < VERSION:
                 self.connection.executescript(SCHEMA)
         if version > VERSION:
             raise Fault(f"{self.path}: it is the journal of a later version: use that one")
@@ -165,6 +167,18 @@ class Journal:
         with self.faults():
             (count,) = self.connection.execute(
                 "SELECT count(*) FROM mails WHERE sender = ? AND time > ? AND time <= ?",
+                (sender, since, until)).fetchone()
+        return int(count)
+
+    def note_answer(self, sender: str, moment: float) -> None:
+        """Notes that an answer goes to a sender, also to a mail that comes again."""
+        self.change("INSERT INTO answers VALUES (?, ?)", sender, moment)
+
+    def answers_of(self, sender: str, since: float, until: float) -> int:
+        """How many answers went to a sender between two times."""
+        with self.faults():
+            (count,) = self.connection.execute(
+                "SELECT count(*) FROM answers WHERE sender = ? AND time > ? AND time <= ?",
                 (sender, since, until)).fetchone()
         return int(count)
 

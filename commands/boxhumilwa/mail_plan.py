@@ -169,6 +169,7 @@ def report_plan(mail: Mail, rules: Rules, desk: MailDesk) -> Plan:
         told.append(f"{mail.address} may send no commands: the lines Control were left out.")
     sender = sender_of(mail)
     test_size(pseudo, sender, lines)
+    version = version.removeprefix(f"{package}/")
     package, version, named = source_of(desk, rules, package, version)
     notes += [*told, *([note] if note else []), *named, *general_notes(mail, pseudo)]
     report = Report(sender, package, version, severity, title)
@@ -201,19 +202,20 @@ def forwarded_lines(mail: Mail, target: Target) -> list[str]:
     return [f"forwarded -1 {text}"] if text else []
 
 
-def closing_lines(values: dict[str, str], mail: Mail, rules: Rules, desk: MailDesk) -> tuple[
+def closing_lines(values: dict[str, str], package: str, rules: Rules, desk: MailDesk) -> tuple[
         list[str], list[str]]:
-    """The line that closes a bug, with the version of the mail, and what has to be told of it."""
-    version, notes = bare_version(values)
-    package = mail_headers.package_of(values)
-    if version and "/" not in version and is_package_name(package):
+    """The line that closes a bug of a package, with the version that a mail says, and its notes."""
+    word, notes = bare_version(values)
+    owner, _, version = word.rpartition("/")
+    package = owner or mail_headers.package_of(values) or package
+    if version and is_package_name(package):
         package, version, named = source_of(desk, rules, package, version)
-        version, notes = f"{package}/{version}", notes + named
-    return [f"close -1 {version}".rstrip()], notes
+        word, notes = f"{package}/{version}", notes + named
+    return [f"close -1 {word}".rstrip()], notes
 
 
 def own_lines(
-    mail: Mail, target: Target, pseudo: Pseudo, rules: Rules, desk: MailDesk, forwarded: str,
+    mail: Mail, target: Target, pseudo: Pseudo, rules: Rules, desk: MailDesk, page: dict[str, str],
 ) -> tuple[list[str], list[str]]:
     """The lines that a mail about a bug stands for, and what has to be told of them.
 
@@ -224,9 +226,10 @@ def own_lines(
     if target.kind == DONE:
         if mail.wrong:
             raise Refusal(f"{WRONG[mail.wrong]}\nThe bug was not closed.")
-        closing, notes = closing_lines(pseudo.values, mail, rules, desk)
+        closing, notes = closing_lines(
+            pseudo.values, page.get("Package", ""), rules, desk)
         lines = closing + lines
-    if target.kind == FORWARDED and forwarded == "-":
+    if target.kind == FORWARDED and page.get("Forwarded", "-") == "-":
         lines = forwarded_lines(mail, target) + lines
     if lines and not rules.may_control(mail):
         return [], [f"{mail.address} may send no commands: the mail is kept, and no more."]
@@ -242,8 +245,7 @@ def said_plan(mail: Mail, target: Target, rules: Rules, desk: MailDesk) -> Plan:
     if page is None:
         raise Refusal(f"There is no bug {number} here: nothing was kept.")
     pseudo = mail_headers.read_pseudo(mail.text)
-    lines, notes = own_lines(
-        mail, target, pseudo, rules, desk, page.get("Forwarded", "-"))
+    lines, notes = own_lines(mail, target, pseudo, rules, desk, page)
     sender = sender_of(mail)
     test_size(pseudo, sender, lines)
     if page.get("Archived") == "yes":

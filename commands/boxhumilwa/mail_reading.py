@@ -15,6 +15,8 @@ import json
 import re
 from typing import NamedTuple
 
+from .mail_flowed import unflowed
+
 LARGEST = 10_000_000
 LONGEST_HEADER = 10_000
 # How many parts may hold parts, and that times the lines, each of which is tried for each end.
@@ -24,10 +26,16 @@ ADDRESS = re.compile(
     r"[A-Za-z0-9!#$%&'*+/=?^_`{|}~-]+(?:\.[A-Za-z0-9!#$%&'*+/=?^_`{|}~-]+)*"
     r"@[A-Za-z0-9](?:[A-Za-z0-9-]*[A-Za-z0-9])?(?:\.[A-Za-z0-9](?:[A-Za-z0-9-]*[A-Za-z0-9])?)*")
 LONGEST_ADDRESS = 200
+# The headers that answers depend on, and how many of each are looked at.
+ASKED = ("auto-submitted", "precedence", "list-id", "x-auto-response-suppress", "x-boxhumilwa",
+         "x-debbugs-no-ack")
+MOST_SAME = 100
 IDENTITY = re.compile("<[!-;=?-~]{1,240}>")
 # Codecs of Python that are no charsets of mails, and may be slow or read escapes.
 NO_CHARSETS = ("idna", "punycode", "unicode_escape", "unicode-escape", "raw_unicode_escape",
                "raw-unicode-escape", "undefined")
+# An encoded word, or a backslash outside of one.
+BACKSLASH = re.compile(r"(=\?[^?]*\?[qb]\?.*?\?=)|\\", re.IGNORECASE)
 CONTROL = re.compile("[\x00-\x1f\x7f]+")
 # What went wrong with the text of a mail.
 TOO_BIG, TOO_DEEP, ONLY_HTML, TEXTLESS = "too big", "too deep", "only HTML", "no text"
@@ -37,7 +45,7 @@ class Mail(NamedTuple):
     """What is read of a mail.
 
     `wrong` is empty where it has a text, `notes` tell what was replaced, and `identity` is a hash
-    of its Message-ID, its From and its body.
+    of its Message-ID (its Subject and Date where it has none), its From and its body.
     """
 
     identity: str
@@ -103,11 +111,15 @@ def header_text(value: object) -> str:
     """The text of a header, whatever stands in it, on one line."""
     raw = raw_text(value)
     try:
-        pieces = email.header.decode_header(raw)
+        # Plain pieces beside encoded words come back with escapes, so a backslash goes in as one.
+        pieces = email.header.decode_header(
+            BACKSLASH.sub(lambda found: found[1] or r"\u005c", raw))
     except (email.errors.HeaderParseError, ValueError):
         return plain(raw)
     return plain("".join(
-        piece if isinstance(piece, str) else decoded(piece, charset or "")[0]
+        raw if isinstance(piece, str)
+        else piece.decode("raw-unicode-escape", "replace") if charset is None
+        else decoded(piece, charset)[0]
         for piece, charset in pieces))
 
 
@@ -121,8 +133,9 @@ def raw_text(value: object) -> str:
 
 
 def is_address(word: str) -> bool:
-    """Whether a word is an address that mail can be sent to."""
-    return len(word) <= LONGEST_ADDRESS and ADDRESS.fullmatch(word) is not None
+    """Whether a word is an address that mail can be sent to, and that no reader decodes."""
+    is_short = len(word) <= LONGEST_ADDRESS and "=?" not in word
+    return is_short and ADDRESS.fullmatch(word) is not None
 
 
 def addresses(value: object) -> list[tuple[str, str]]:
@@ -170,12 +183,19 @@ def part_bytes(part: email.message.Message) -> bytes:
     return payload if isinstance(payload, bytes) else b""
 
 
+def parameter(part: email.message.Message, name: str) -> str:
+    """A parameter of the type of a part."""
+    value = part.get_param(name, "")
+    return str(value[2] if isinstance(value, tuple) else value)
+
+
 def part_text(part: email.message.Message) -> tuple[str, str]:
     """The text of a part, with line feeds alone, and what has to be told of it."""
-    charset = part.get_param("charset", "")
-    word = charset[2] if isinstance(charset, tuple) else charset
-    text, note = decoded(part_bytes(part), str(word))
-    return text.replace("\r\n", "\n"), note
+    text, note = decoded(part_bytes(part), parameter(part, "charset"))
+    text = text.replace("\r\n", "\n")
+    if parameter(part, "format").lower() == "flowed":
+        text = unflowed(text, parameter(part, "delsp").lower() == "yes")
+    return text, note
 
 
 def is_attached(part: email.message.Message) -> bool:
@@ -186,17 +206,21 @@ def is_attached(part: email.message.Message) -> bool:
 def text_of(message: email.message.Message) -> tuple[str, str, str]:
     """The text of a mail, what is wrong with it, and what has to be told of it."""
     parts = own_parts(message)
-    texts = [part for part in parts if part.get_content_type() == "text/plain"]
-    said = [part for part in texts if not is_attached(part)] or texts
-    if said:
-        text, note = part_text(said[0])
-        if text.strip():
-            return text, "", note
+    for part in parts:
+        if part.get_content_type() == "text/plain" and not is_attached(part):
+            text, note = part_text(part)
+            if text.strip():
+                return text, "", note
     is_html = any(part.get_content_type() == "text/html" for part in parts)
     return "", ONLY_HTML if is_html else TEXTLESS, ""
 
 
 # The record.
+
+
+def own_name(message: email.message.Message) -> str:
+    """What stands for the Message-ID of a mail that has none."""
+    return json.dumps([" ".join(raw_text(message.get(it)).split()) for it in ("subject", "date")])
 
 
 def identity_of(message_id: str, sender: str, body: bytes) -> str:
@@ -246,6 +270,11 @@ def parsed(data: bytes) -> tuple[email.message.Message, str, str, str]:
     return email.message_from_bytes(head, policy=POLICY), "", wrong, ""
 
 
+def headers_of(message: email.message.Message, name: str) -> str:
+    """The first headers of a name, each on a line and in lower case."""
+    return "\n".join(header_text(it).lower() for it in message.get_all(name, [])[:MOST_SAME])
+
+
 def read_mail(data: bytes) -> Mail:
     """The record of a mail."""
     data = re.sub(rb"\A(?:>?From [^\n]*\n)+", b"", data)
@@ -255,13 +284,13 @@ def read_mail(data: bytes) -> Mail:
     message_id = (identities(message.get("message-id")) or ("",))[0]
     earlier = identities(message.get("references")) or identities(message.get("in-reply-to"))
     path = message.get("return-path")
-    names = ("auto-submitted", "precedence", "x-boxhumilwa", "x-debbugs-no-ack")
     return Mail(
-        identity_of(message_id, raw_text(message.get("from")), body_of(data)),
+        identity_of(
+            message_id or own_name(message), raw_text(message.get("from")), body_of(data)),
         name, address, header_text(message.get("subject")),
         tuple(address for _, address in addresses(message.get("to"))),
         message_id, (earlier + ((message_id,) if message_id else ()))[-20:],
         None if path is None else raw_text(path).strip().strip("<>"),
-        {it: header_text(message.get(it)).lower() for it in names if it in message},
+        {it: headers_of(message, it) for it in ASKED if it in message},
         text, wrong, (note,) if note else ())
 

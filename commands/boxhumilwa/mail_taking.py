@@ -3,6 +3,7 @@
 Each step does nothing where it was done before, so a delivery that ended anywhere is just repeated.
 """
 
+import functools
 import hashlib
 import itertools
 import json
@@ -96,19 +97,25 @@ def test_size(settings: Settings, name: str, size: int) -> None:
 def write_answer(delivery: Delivery, outcome: Outcome) -> None:
     """Puts the answer to a mail into the folder of answers."""
     out = os.path.join(delivery.settings.folder, "out")
-    data = mail_answers.answer(
-        delivery.mail, delivery.to()[0], delivery.target, delivery.settings.domain, outcome)
+    build = functools.partial(
+        mail_answers.answer, delivery.to()[0], delivery.target, delivery.settings.domain)
+    data = mail_answers.built(build, delivery.mail, outcome)
     test_size(delivery.settings, "out", mail_folders.size_of(out) + len(data))
+    delivery.journal.note_answer(delivery.to()[0].lower(), time.time())
     mail_folders.put(out, f"{delivery.key}.eml", data)
 
 
 def may_answer(delivery: Delivery, row: Row) -> str:
     """Why a mail gets no answer; nothing where it gets one."""
-    _, reason = delivery.to()
+    address, reason = delivery.to()
     if reason:
         return reason
     count = delivery.journal.count_of(row.sender, row.time - HOUR, row.time)
-    return f"its sender sent {count} mails in an hour" if count > MOST_ANSWERED else ""
+    if count > MOST_ANSWERED:
+        return f"its sender sent {count} mails in an hour"
+    now = time.time()
+    count = delivery.journal.answers_of(address.lower(), now - HOUR, now)
+    return f"its sender got {count} answers in an hour" if count >= MOST_ANSWERED else ""
 
 
 def within(pieces: Iterable[bytes], settings: Settings, size: int) -> Iterator[bytes]:
@@ -198,8 +205,9 @@ def keep_all(delivery: Delivery, plan: Plan, outcome: Outcome) -> None:
         bugs.insert(0, outcome.number)
     kept = [(f"{delivery.mail.identity[:KEY_LETTERS]}.mail", delivery.data)]
     if outcome.transcript and delivery.target:
-        kept.append((f"{delivery.key}.transcript", mail_answers.transcript(
-            delivery.mail, plan.sender, delivery.target, outcome)))
+        build = functools.partial(mail_answers.transcript, plan.sender, delivery.target)
+        kept.append((f"{delivery.key}.transcript", mail_answers.built(
+            build, delivery.mail, outcome)))
     delivery.journal.keep(bugs, [(name, len(data)) for name, data in kept])
     for name, data in kept:
         other = ""
