@@ -24,11 +24,11 @@ import sqlite3
 from collections.abc import Iterable, Iterator
 
 from .bug_facts import Condition, Row, add_tags, opened_file, select, told_faults
-from .command import DONE, REFUSED, place_of, run, tell, write_lines
+from .command import DONE, REFUSED, is_served, place_of, run, tell, write_lines
 from .desk_file import FileDesk
 from .desk_served import ServedDesk
 from .faults import Fault
-from .find_words import is_served, read_options
+from .find_words import read_options
 from .finding import (
     ORDERS,
     add_functions,

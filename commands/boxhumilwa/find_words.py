@@ -6,7 +6,7 @@ import re
 
 from .answers import SEVERITIES, TAGS
 from .bug_facts import STATES
-from .command import Parser, add_program, make_parser, named_path, port_number
+from .command import Parser, add_desk_to_read, add_program, is_served, make_parser, named_path
 from .finding import BOTH, NO, ORDERS, YES
 from .page_facts import MOST_MISSING
 from .texts import is_package_name, number_word
@@ -66,13 +66,7 @@ def bug_number(word: str) -> int:
 
 def add_place(parser: Parser) -> None:
     """Puts the options that say where the desk is, and how it is read."""
-    parser.add_argument(
-        "--store", metavar="FILE", help="the file of the desk, which a server may have open")
-    served = parser.add_mutually_exclusive_group()
-    served.add_argument(
-        "--port", type=port_number, metavar="N", help="the port of the desk's server")
-    served.add_argument(
-        "--socket", metavar="PATH", help="the Unix socket of the desk's server, for HTTP")
+    add_desk_to_read(parser)
     parser.add_argument(
         "--first", type=bug_number, metavar="N",
         help="the first page to ask a server for; 1 if left out")
@@ -163,11 +157,6 @@ def find_parser(told: str | None) -> Parser:
 
 
 # All together.
-
-
-def is_served(options: argparse.Namespace) -> bool:
-    """Whether the options name a server."""
-    return options.port is not None or options.socket is not None
 
 
 def fault_of(options: argparse.Namespace) -> str | None:

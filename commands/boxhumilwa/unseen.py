@@ -12,7 +12,8 @@ from collections.abc import Iterable, Iterator
 from typing import NamedTuple
 
 from .answers import SEVERITIES, Question
-from .nodes import opened, source_of
+from .listed_bugs import node_of
+from .nodes import opened
 
 IN_BRANCH = "SELECT 1 FROM nodes WHERE source = ? AND version = ?"
 # The bugs that a list of a package would have but for marks at the version itself: not archived,
@@ -91,17 +92,12 @@ def uncounted(
     A version may have its source before it, which is the package else.
     """
     for package, version in questions:
-        node = node_of(package, version)
+        node = node_of((package, version))
         source, _, bare = node.partition("/")
         if not connection.execute(IN_BRANCH, (source, bare)).fetchone():
             words = {"package": package, "source": source, "version": bare}
             rows = connection.execute(NOT_COUNTED, words).fetchall()
             yield Uncounted(package, version, tuple(number for (number,) in rows))
-
-
-def node_of(package: str, version: str) -> str:
-    """A version with its source, which is the package where none stands before it."""
-    return version if source_of(version) != version else f"{package}/{version}"
 
 
 def all_unplaced(connection: sqlite3.Connection) -> Iterator[tuple[int, Unplaced]]:
@@ -130,7 +126,7 @@ def unplaced_in(
     """Those of these bugs that one of these lists has not, though no mark says so, by package."""
     asked: dict[str, list[str]] = {}
     for package, version in questions:
-        asked.setdefault(package, []).append(node_of(package, version))
+        asked.setdefault(package, []).append(node_of((package, version)))
     missed: dict[str, list[Unplaced]] = {}
     triples = ((key, bug, package) for key, bug in unplaced for package in bug.packages)
     for key, bug, package in triples:
