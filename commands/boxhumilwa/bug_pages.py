@@ -4,16 +4,15 @@ A version is written source/version here, as the desk writes it, and is called a
 Whether a node is listed is read from the program's `@list` at that node alone.
 """
 
-import urllib.parse
 from collections.abc import Callable, Iterator
 from typing import NamedTuple
 
-from .answers import Unexpected, next_line, read_page, read_row
+from .answers import Unexpected, read_page
 from .desk_file import FileDesk, asked
 from .desk_served import ServedDesk
 from .faults import Fault
+from .listed_bugs import Desk, Listed, listed_at_port, read_listed
 
-Desk = FileDesk | ServedDesk
 # What is told of each list that came, of so many.
 TellOne = Callable[[int, str], None]
 NONE = "-"
@@ -67,15 +66,12 @@ def page_text(desk: Desk, number: int) -> str:
 # Lists.
 
 
-def read_listed(lines: Iterator[str], package: str, node: str, number: int) -> bool:
-    """Whether a bug is in the list of a package at a node."""
-    heading = next_line(lines)
-    start = f"Bugs in {package} at {node}: "
-    count = heading.removeprefix(start)
-    if not heading.startswith(start) or not count.isdecimal():
-        raise Unexpected(heading)
-    rows = [read_row(next_line(lines)).number for _ in range(int(count))]
-    return number in rows
+def is_listed(answer: Listed, number: int) -> bool:
+    """Whether a bug is in the list of a package at a node, which no desk refuses."""
+    numbers, refusal = answer
+    if refusal is not None:
+        raise Unexpected(refusal)
+    return number in numbers
 
 
 def listed_in_file(desk: FileDesk, page: Page, nodes: list[str]) -> tuple[dict[str, bool], str]:
@@ -84,24 +80,20 @@ def listed_in_file(desk: FileDesk, page: Page, nodes: list[str]) -> tuple[dict[s
 
     def read(lines: Iterator[str]) -> Iterator[bool | str]:
         """Each answer, the page last."""
-        yield from (read_listed(lines, page.package, node, page.number) for node in nodes)
+        yield from (
+            is_listed(read_listed(lines, (page.package, node)), page.number) for node in nodes)
         yield read_page(lines, page.number)
 
     *states, text = asked(desk.program, desk.store, script, read)
     return {node: bool(state) for node, state in zip(nodes, states)}, str(text)
 
 
-def listed_at_port(desk: ServedDesk, page: Page, node: str) -> bool:
+def node_lists(desk: ServedDesk, page: Page, node: str) -> bool:
     """Whether a node lists the bug, by a server."""
-    source, _, version = node.partition("/")
-    words = (urllib.parse.quote(word, safe="") for word in (page.package, source, version))
-    refusal: bool | None = None
-    answer = desk.read(
-        "/list/" + "/".join(words),
-        lambda lines: read_listed(lines, page.package, node, page.number), refusal)
-    if answer is None:
-        raise desk.place.no_desk("status 404")
-    return answer
+    try:
+        return is_listed(listed_at_port(desk, (page.package, node)), page.number)
+    except Unexpected as error:
+        raise desk.place.no_desk(error) from error
 
 
 def listed(
@@ -111,7 +103,7 @@ def listed(
     if isinstance(desk, ServedDesk):
         states = {}
         for node in nodes:
-            states[node] = listed_at_port(desk, page, node)
+            states[node] = node_lists(desk, page, node)
             tell_one(len(nodes), "lists")
         return states, page_text(desk, page.number)
     return listed_in_file(desk, page, nodes)
